@@ -7,7 +7,7 @@
 #include "spcwave.h"
 #include "spcwave_table.h"
 
-enum { WIDTH = 640, HEIGHT = 100, BAR = 30, BOX = WIDTH / 8, MOST_BYTES = 1048577, AT_ONCE = 1024, SLICE = 3200, STEP = 5 * SPCWAVE_RATE };
+enum { WIDTH = 640, HEIGHT = 100, BAR = 30, BOX = WIDTH / 8, MAX_BYTES = 1048577, AT_ONCE = 1024, SLICE = 3200, STEP = 5 * SPCWAVE_RATE };
 
 /* What the threads share: all but `work` and `is_seeking` under the lock, and so every call that takes the player. */
 typedef struct tune {
@@ -97,7 +97,7 @@ static void draw(tune *it, SDL_Renderer *to) {
 
 /* Opens the file that is named. Answers a status of the library, or SPCWAVE_OUT_OF_RANGE where it can't be read. */
 static uint32_t open_tune(tune *it, const char *name) {
-    static uint8_t bytes[MOST_BYTES], table[1024];
+    static uint8_t bytes[MAX_BYTES], table[1024];
     spcwave_options options = SPCWAVE_OPTIONS;
     FILE *in = fopen(name, "rb");
     size_t size;

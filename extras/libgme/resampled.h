@@ -10,7 +10,7 @@
 
 #include "spc_run.h"
 
-enum { LEAST_RATE = 1000, GREATEST_RATE = 768000 };
+enum { MIN_RATE = 1000, MAX_RATE = 768000 };
 
 typedef struct resampled resampled;
 

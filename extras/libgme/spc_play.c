@@ -22,7 +22,7 @@ static void play_anew(spc_tune *tune) {
 
 static gme_err_t prepare_rate(spc_tune *tune) {
     if (tune->rate == SPCWAVE_RATE || tune->resampled) return NULL;
-    if (tune->rate < LEAST_RATE || tune->rate > GREATEST_RATE) return "Unsupported sample rate";
+    if (tune->rate < MIN_RATE || tune->rate > MAX_RATE) return "Unsupported sample rate";
     tune->resampled = open_resampled(tune->rate);
     return tune->resampled ? NULL : OUT_OF_MEMORY;
 }

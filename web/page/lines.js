@@ -3,7 +3,7 @@ import { VOICES } from './library.js';
 import { noteOf } from './notes.js';
 
 export const COLUMNS = 1024;
-const LEAST_SPAN = 12; // notes that a voice's part of the chart has room for, at least
+const MIN_SPAN = 12; // notes that a voice's part of the chart has room for, at least
 
 /** Lines of a tune of so many frames, of which none is rendered yet. Of voice v the numbers stand from v * COLUMNS on. */
 export function emptyLines(frames) {
@@ -52,6 +52,6 @@ export function notesOf(lines, voice) {
     if (note !== null) [least, greatest] = [Math.min(least, note), Math.max(greatest, note)];
   }
   if (least > greatest) return null;
-  const missing = Math.max(0, LEAST_SPAN - (greatest - least)) / 2;
+  const missing = Math.max(0, MIN_SPAN - (greatest - least)) / 2;
   return { least: least - missing, greatest: greatest + missing };
 }

@@ -105,7 +105,7 @@ none_common these those apart =
     neither true b h = h refl
     neither false b h = refl
 
--- where the echo's window has no page of what voices can read from afar, the reach isn't entangled
+-- where the echo's window has no page of the conservative bounds of what voices can read, the reach isn't entangled
 pub far_apart : (s : ChipState) (memory : List ℕ)
     → have_common_page (set.from_list (far_pages_of_chip s memory)) (set.from_list (window_pages (chip_window s))) ≡ false
     → (chip_reach s memory).entangled ≡ false

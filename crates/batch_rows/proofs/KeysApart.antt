@@ -13,7 +13,7 @@ use Rattle.dsp_state.proofs.EightVoices.{polled_part}
 use Rattle.batch_rows.specs.KeysAndNoise.{noise_after, with_keys_of, IsUnkeyed}
 use Rattle.batch_rows.specs.Rows.{keys_after}
 use Rattle.batch_rows.proofs.OneMore.{registers-after_poll, registers-keys_after}
-use Rattle.batch_rows.proofs.ResultsOfBatch.{at_poll, between_polls, settled, taken_once}
+use Rattle.batch_rows.proofs.ResultsOfBatch.{at_poll, between_polls, settled, latched_once}
 
 -- which samples poll the keys
 pub poll_of : (k j : ℕ) → (j % 2 == k % 2) ≡ ((k + j) % 2 == 0)
@@ -44,12 +44,12 @@ one_more_poll k s j = by ((k + j) % 2 == 0) refl
 unkeyed_next : (s : ChipState) (k : ℕ) → IsUnkeyed s → IsUnkeyed (before_voices s k)
 unkeyed_next s k none = by (k % 2 == 0) refl
   where
-    left : without_bits s.hidden.waiting s.hidden.taken ≡ 0
-    left = ap (λ (one : ℕ). without_bits one s.hidden.taken) none.waiting ∙ ap (λ (one : ℕ). without_bits 0 one) none.taken
+    left : without_bits s.hidden.kon_pending s.hidden.kon_latched ≡ 0
+    left = ap (λ (one : ℕ). without_bits one s.hidden.kon_latched) none.kon_pending ∙ ap (λ (one : ℕ). without_bits 0 one) none.kon_latched
 
     by : (b : Bool) → (k % 2 == 0) ≡ b → IsUnkeyed (before_voices s k)
-    by true even = let both = at_poll s k even in record { waiting = both.0 ∙ left; taken = both.1 ∙ left }
-    by false odd = let both = between_polls s k odd in record { waiting = both.0 ∙ none.waiting; taken = both.1 ∙ none.taken }
+    by true even = let both = at_poll s k even in record { kon_pending = both.0 ∙ left; kon_latched = both.1 ∙ left }
+    by false odd = let both = between_polls s k odd in record { kon_pending = both.0 ∙ none.kon_pending; kon_latched = both.1 ∙ none.kon_latched }
 
 pub unkeyed_later : (k : ℕ) (s : ChipState) (from j : ℕ) → from ≤ j → IsUnkeyed (keys_after k s from) → IsUnkeyed (keys_after k s j)
 unfolding keys_after
@@ -60,7 +60,7 @@ unkeyed_later k s from (suc j) above none = elim (cases_lt j from) [
 ]
 
 -- it is so after four samples: two of them poll
-pub unkeyed_after_four : (k : ℕ) (s : ChipState) → s.hidden.waiting < 0x100 → IsUnkeyed (keys_after k s 4)
+pub unkeyed_after_four : (k : ℕ) (s : ChipState) → s.hidden.kon_pending < 0x100 → IsUnkeyed (keys_after k s 4)
 unfolding keys_after
 unkeyed_after_four k s small = by (k % 2 == 0) refl
   where
@@ -70,22 +70,22 @@ unkeyed_after_four k s small = by (k % 2 == 0) refl
         let first : ((k + 0) % 2 == 0) ≡ true = let at : (k + 0) % 2 ≡ 0 = omega (arith, even) in rw at refl in
         let second : ((k + 2) % 2 == 0) ≡ true = let at : (k + 2) % 2 ≡ 0 = omega (arith, even) in rw at refl in
         let last : ((k + 3) % 2 == 0) ≡ false = let at : (k + 3) % 2 ≡ 1 = omega (arith, even) in rw at refl in
-        let none : (keys_after k s 3).hidden.taken ≡ 0 = taken_once k s 0 1 small first second in
-        let same : (keys_after k s 3).hidden.waiting ≡ (keys_after k s 3).hidden.taken = settled k s 0 2 first in
+        let none : (keys_after k s 3).hidden.kon_latched ≡ 0 = latched_once k s 0 1 small first second in
+        let same : (keys_after k s 3).hidden.kon_pending ≡ (keys_after k s 3).hidden.kon_latched = settled k s 0 2 first in
         let stays = between_polls (keys_after k s 3) (k + 3) last in
-        record { waiting = stays.0 ∙ same ∙ none; taken = stays.1 ∙ none }
+        record { kon_pending = stays.0 ∙ same ∙ none; kon_latched = stays.1 ∙ none }
     by false e =
         let odd : k % 2 ≡ 1 = grind (arith, nat_tests, e) in
         let first : ((k + 1) % 2 == 0) ≡ true = let at : (k + 1) % 2 ≡ 0 = omega (arith, odd) in rw at refl in
         let second : ((k + 3) % 2 == 0) ≡ true = let at : (k + 3) % 2 ≡ 0 = omega (arith, odd) in rw at refl in
-        let none : (keys_after k s 4).hidden.taken ≡ 0 = taken_once k s 1 1 small first second in
-        let same : (keys_after k s 4).hidden.waiting ≡ (keys_after k s 4).hidden.taken = settled k s 1 2 first in
-        record { waiting = same ∙ none; taken = none }
+        let none : (keys_after k s 4).hidden.kon_latched ≡ 0 = latched_once k s 1 1 small first second in
+        let same : (keys_after k s 4).hidden.kon_pending ≡ (keys_after k s 4).hidden.kon_latched = settled k s 1 2 first in
+        record { kon_pending = same ∙ none; kon_latched = none }
 
 -- so samples after which none waits or was taken leave the keys as they are
 pub all_keys : (k : ℕ) (s : ChipState) (keyed n : ℕ) → keyed ≤ n → (keyed < n → IsUnkeyed (keys_after k s keyed)) → with_keys_of s (keys_after k s keyed) ≡ with_keys_of s (keys_after k s n)
 all_keys k s keyed n few rest = elim (cases_lt keyed n) [
-  | inl more ↦ (let now = rest more in let end = unkeyed_later k s keyed n few now in rw (now.waiting, now.taken, end.waiting, end.taken) refl)
+  | inl more ↦ (let now = rest more in let end = unkeyed_later k s keyed n few now in rw (now.kon_pending, now.kon_latched, end.kon_pending, end.kon_latched) refl)
   | inr all ↦ (let same : keyed ≡ n = omega (arith, few, all) in rw same refl)
 ]
 
@@ -119,7 +119,7 @@ noise_between rate k noise at next j fired still after upto =
 -- a poll leaves the noise
 noise-after_poll : (s : ChipState) (k : ℕ) → (after_poll s k).hidden.noise ≡ s.hidden.noise
 unfolding after_poll
-noise-after_poll s k = polled_part (λ (t : ChipState). t.hidden.noise) (k % 2 == 0) s (without_bits s.hidden.waiting s.hidden.taken) refl
+noise-after_poll s k = polled_part (λ (t : ChipState). t.hidden.noise) (k % 2 == 0) s (without_bits s.hidden.kon_pending s.hidden.kon_latched) refl
 
 -- so the noise goes through a batch by itself
 pub noise-keys_after : (k : ℕ) (s : ChipState) (n : ℕ) → (keys_after k s n).hidden.noise ≡ noise_after (noise_rate (slice_index s.registers FLG)) k s.hidden.noise n
@@ -131,7 +131,7 @@ noise-keys_after k s (suc n) =
 
 -- a state with the keys and the noise of another
 abbrev pub with_keys_and_noise_of : ChipState → (other : ChipState) → ChipState
-with_keys_and_noise_of s other = record s { hidden = record s.hidden { waiting = other.hidden.waiting; taken = other.hidden.taken; noise = other.hidden.noise } }
+with_keys_and_noise_of s other = record s { hidden = record s.hidden { kon_pending = other.hidden.kon_pending; kon_latched = other.hidden.kon_latched; noise = other.hidden.noise } }
 
 keys_and_noise_next : (s : ChipState) (k : ℕ) → with_keys_and_noise_of s (before_voices s k) ≡ before_voices s k
 unfolding after_poll after_noise
@@ -155,8 +155,8 @@ voices-keys_after k s n = ap (λ (t : ChipState). t.hidden.voices) (sym (keys_an
 pub echo-keys_after : (k : ℕ) (s : ChipState) (n : ℕ) → (keys_after k s n).hidden.echo ≡ s.hidden.echo
 echo-keys_after k s n = ap (λ (t : ChipState). t.hidden.echo) (sym (keys_and_noise_alone k s n))
 
-same_keys_and_noise : (s t : ChipState) → t.hidden.waiting ≡ s.hidden.waiting → t.hidden.taken ≡ s.hidden.taken → t.hidden.noise ≡ s.hidden.noise → with_keys_and_noise_of s t ≡ s
-same_keys_and_noise s t waiting taken noise = rw (waiting, taken, noise) refl
+same_keys_and_noise : (s t : ChipState) → t.hidden.kon_pending ≡ s.hidden.kon_pending → t.hidden.kon_latched ≡ s.hidden.kon_latched → t.hidden.noise ≡ s.hidden.noise → with_keys_and_noise_of s t ≡ s
+same_keys_and_noise s t kon_pending kon_latched noise = rw (kon_pending, kon_latched, noise) refl
 
 -- samples that change neither the keys nor the noise leave all as it is
 pub all_idle : (k : ℕ) (s : ChipState) (n : ℕ) → IsUnkeyed (keys_after k s 0) → IsStill (noise_rate (slice_index s.registers FLG)) k 0 n → (j : ℕ) → j ≤ n → keys_after k s j ≡ s
@@ -164,4 +164,4 @@ unfolding keys_after
 all_idle k s n none still j upto =
     let end = unkeyed_later k s 0 j (omega arith) none in
     let noise : (keys_after k s j).hidden.noise ≡ s.hidden.noise = noise-keys_after k s j ∙ noise_before (noise_rate (slice_index s.registers FLG)) k s.hidden.noise n j still upto in
-    sym (keys_and_noise_alone k s j) ∙ same_keys_and_noise s (keys_after k s j) (end.waiting ∙ sym none.waiting) (end.taken ∙ sym none.taken) noise
+    sym (keys_and_noise_alone k s j) ∙ same_keys_and_noise s (keys_after k s j) (end.kon_pending ∙ sym none.kon_pending) (end.kon_latched ∙ sym none.kon_latched) noise

@@ -45,8 +45,8 @@ keyed_are k n s memory rows eight are small j few =
     (length-voices_after (inputs k s memory) 0 (λ j. pos 0) s.hidden.voices j ∙ eight) (below (get_or rows.poll j false) (slice_index rows.kon j) (small j few)) same
     ∙ ap (λ (results : List VoiceResult). bits_from (λ answer. answer.keyed) 0 (map (λ (one : VoiceResult). one.answer) results)) (results_from-lanes (inputs k s memory) 0 (λ j. pos 0) s.hidden.voices j)
   where
-    same : (if get_or rows.poll j false then slice_index rows.kon j else 0) ≡ (if (inputs k s memory j).common.is_poll then (inputs k s memory j).common.taken else 0)
-    same = rw (are.polls j few, are.taken j few) refl
+    same : (if get_or rows.poll j false then slice_index rows.kon j else 0) ≡ (if (inputs k s memory j).common.is_poll then (inputs k s memory j).common.kon_latched else 0)
+    same = rw (are.polls j few, are.kon_latched j few) refl
 
     below : (b : Bool) (kon : ℕ) → kon < 0x100 → (if b then kon else 0) < 0x100
     below true kon h = h

@@ -21,14 +21,14 @@ poll_of_parts : (s : ChipState) (k : ℕ) (registers : List ℕ) (voices : List 
 unfolding after_poll
 poll_of_parts s k registers voices echo = by (k % 2 == 0)
   where
-    waiting : ℕ
-    waiting = without_bits s.hidden.waiting s.hidden.taken
+    kon_pending : ℕ
+    kon_pending = without_bits s.hidden.kon_pending s.hidden.kon_latched
 
     whole : ChipState
     whole = with_parts s registers voices echo
 
-    by : (b : Bool) → (if b then record whole { hidden = record whole.hidden { waiting = waiting; taken = waiting } } else whole)
-        ≡ with_parts (if b then record s { hidden = record s.hidden { waiting = waiting; taken = waiting } } else s) registers voices echo
+    by : (b : Bool) → (if b then record whole { hidden = record whole.hidden { kon_pending = kon_pending; kon_latched = kon_pending } } else whole)
+        ≡ with_parts (if b then record s { hidden = record s.hidden { kon_pending = kon_pending; kon_latched = kon_pending } } else s) registers voices echo
     by true = refl
     by false = refl
 
@@ -83,7 +83,7 @@ sample_of_parts now k first registers voices echo memory results muted is same f
 -- nor do they change the table
 table-before_voices : (s : ChipState) (k : ℕ) → (before_voices s k).table ≡ s.table
 unfolding after_poll after_noise
-table-before_voices s k = polled_part (λ (t : ChipState). t.table) (k % 2 == 0) s (without_bits s.hidden.waiting s.hidden.taken) refl
+table-before_voices s k = polled_part (λ (t : ChipState). t.table) (k % 2 == 0) s (without_bits s.hidden.kon_pending s.hidden.kon_latched) refl
 
 pub table-keys_after : (k : ℕ) (s : ChipState) (n : ℕ) → (keys_after k s n).table ≡ s.table
 unfolding keys_after

@@ -33,7 +33,7 @@ module _ (k n v : ℕ) (s : ChipState) (memory : List ℕ) (rows : BatchRows) (p
   -- what it reads in a sample
   reads : (j : ℕ) → j < n → lane_inputs (voice_view s.registers v) rows previous j ≡ voice_in s.registers (inputs k s memory j).common v (number_at previous j)
   unfolding lane_input voice_in voice_settings inputs
-  reads j few = rw (are.noise j few, are.polls j few, are.taken j few) refl
+  reads j few = rw (are.noise j few, are.polls j few, are.kon_latched j few) refl
 
   -- its steps
   pub steps_are : (j : ℕ) → j ≤ n

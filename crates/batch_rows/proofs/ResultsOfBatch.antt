@@ -99,16 +99,16 @@ none_left byte within =
 
 -- at a poll both waiting and taken key-ons are those that waited and weren't taken; else both stay
 module _ (s : ChipState) (k : ℕ) where
-  pub at_poll : (k % 2 == 0) ≡ true → ((before_voices s k).hidden.waiting ≡ without_bits s.hidden.waiting s.hidden.taken) × ((before_voices s k).hidden.taken ≡ without_bits s.hidden.waiting s.hidden.taken)
+  pub at_poll : (k % 2 == 0) ≡ true → ((before_voices s k).hidden.kon_pending ≡ without_bits s.hidden.kon_pending s.hidden.kon_latched) × ((before_voices s k).hidden.kon_latched ≡ without_bits s.hidden.kon_pending s.hidden.kon_latched)
   unfolding after_poll after_noise
   at_poll even = (rw even refl, rw even refl)
 
-  pub between_polls : (k % 2 == 0) ≡ false → ((before_voices s k).hidden.waiting ≡ s.hidden.waiting) × ((before_voices s k).hidden.taken ≡ s.hidden.taken)
+  pub between_polls : (k % 2 == 0) ≡ false → ((before_voices s k).hidden.kon_pending ≡ s.hidden.kon_pending) × ((before_voices s k).hidden.kon_latched ≡ s.hidden.kon_latched)
   unfolding after_poll after_noise
   between_polls odd = (rw odd refl, rw odd refl)
 
 -- a byte of keys stays one
-small_keys : (k : ℕ) (s : ChipState) (n : ℕ) → s.hidden.waiting < 0x100 → (keys_after k s n).hidden.waiting < 0x100
+small_keys : (k : ℕ) (s : ChipState) (n : ℕ) → s.hidden.kon_pending < 0x100 → (keys_after k s n).hidden.kon_pending < 0x100
 unfolding keys_after
 small_keys k s zero small = small
 small_keys k s (suc n) small = by ((k + n) % 2 == 0) refl (small_keys k s n small)
@@ -116,12 +116,12 @@ small_keys k s (suc n) small = by ((k + n) % 2 == 0) refl (small_keys k s n smal
     now : ChipState
     now = keys_after k s n
 
-    by : (b : Bool) → ((k + n) % 2 == 0) ≡ b → now.hidden.waiting < 0x100 → (before_voices now (k + n)).hidden.waiting < 0x100
-    by true even before = let same = (at_poll now (k + n) even).0 in omega (arith, same, before, and_le_l now.hidden.waiting (0xff - now.hidden.taken))
+    by : (b : Bool) → ((k + n) % 2 == 0) ≡ b → now.hidden.kon_pending < 0x100 → (before_voices now (k + n)).hidden.kon_pending < 0x100
+    by true even before = let same = (at_poll now (k + n) even).0 in omega (arith, same, before, and_le_l now.hidden.kon_pending (0xff - now.hidden.kon_latched))
     by false odd before = let same = (between_polls now (k + n) odd).0 in omega (arith, same, before)
 
 -- from the first poll of a batch on the key-ons that wait are those that are taken
-pub settled : (k : ℕ) (s : ChipState) (i more : ℕ) → ((k + i) % 2 == 0) ≡ true → (keys_after k s (suc (more + i))).hidden.waiting ≡ (keys_after k s (suc (more + i))).hidden.taken
+pub settled : (k : ℕ) (s : ChipState) (i more : ℕ) → ((k + i) % 2 == 0) ≡ true → (keys_after k s (suc (more + i))).hidden.kon_pending ≡ (keys_after k s (suc (more + i))).hidden.kon_latched
 unfolding keys_after
 settled k s i zero even =
     let both = at_poll (keys_after k s i) (k + i) even in
@@ -138,16 +138,16 @@ settled k s i (suc more) even = rw next (by ((k + suc (more + i)) % 2 == 0) refl
     at : ℕ
     at = k + suc (more + i)
 
-    by : (b : Bool) → (at % 2 == 0) ≡ b → now.hidden.waiting ≡ now.hidden.taken → (before_voices now at).hidden.waiting ≡ (before_voices now at).hidden.taken
+    by : (b : Bool) → (at % 2 == 0) ≡ b → now.hidden.kon_pending ≡ now.hidden.kon_latched → (before_voices now at).hidden.kon_pending ≡ (before_voices now at).hidden.kon_latched
     by true even_too before = let both = at_poll now at even_too in both.0 ∙ sym both.1
     by false odd before = let both = between_polls now at odd in both.0 ∙ before ∙ sym both.1
 
 -- so a later poll of the batch takes none
-pub taken_once : (k : ℕ) (s : ChipState) (i more : ℕ) → s.hidden.waiting < 0x100 → ((k + i) % 2 == 0) ≡ true → ((k + suc (more + i)) % 2 == 0) ≡ true
-    → (keys_after k s (suc (suc (more + i)))).hidden.taken ≡ 0
+pub latched_once : (k : ℕ) (s : ChipState) (i more : ℕ) → s.hidden.kon_pending < 0x100 → ((k + i) % 2 == 0) ≡ true → ((k + suc (more + i)) % 2 == 0) ≡ true
+    → (keys_after k s (suc (suc (more + i)))).hidden.kon_latched ≡ 0
 unfolding keys_after
-taken_once k s i more small first second =
+latched_once k s i more small first second =
     let now : ChipState = keys_after k s (suc (more + i)) in
-    let same : now.hidden.waiting ≡ now.hidden.taken = settled k s i more first in
-    (at_poll now (k + suc (more + i)) second).1 ∙ ap (λ (byte : ℕ). without_bits now.hidden.waiting byte) (sym same)
-    ∙ none_left now.hidden.waiting (small_keys k s (suc (more + i)) small)
+    let same : now.hidden.kon_pending ≡ now.hidden.kon_latched = settled k s i more first in
+    (at_poll now (k + suc (more + i)) second).1 ∙ ap (λ (byte : ℕ). without_bits now.hidden.kon_pending byte) (sym same)
+    ∙ none_left now.hidden.kon_pending (small_keys k s (suc (more + i)) small)

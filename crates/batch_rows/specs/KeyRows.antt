@@ -9,4 +9,4 @@ use Rattle.batch_rows.specs.Rows.{keys_after}
 pub record AreKeyRows (k n : ℕ) (s : ChipState) (rows : BatchRows) : Type 0 where
   pub noise : (j : ℕ) → j < n → slice_index rows.noise j ≡ (keys_after k s (suc j)).hidden.noise
   pub polls : (j : ℕ) → j < n → get_or rows.poll j false ≡ is_polled (k + j)
-  pub taken : (j : ℕ) → j < n → slice_index rows.kon j ≡ (keys_after k s (suc j)).hidden.taken
+  pub kon_latched : (j : ℕ) → j < n → slice_index rows.kon j ≡ (keys_after k s (suc j)).hidden.kon_latched

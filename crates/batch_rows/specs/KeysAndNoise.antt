@@ -6,12 +6,12 @@ use Rattle.dsp_state.specs.declared.state.ChipState.{ChipState}
 
 -- a state with the keys of another
 abbrev pub with_keys_of : ChipState → (other : ChipState) → ChipState
-with_keys_of s other = record s { hidden = record s.hidden { waiting = other.hidden.waiting; taken = other.hidden.taken } }
+with_keys_of s other = record s { hidden = record s.hidden { kon_pending = other.hidden.kon_pending; kon_latched = other.hidden.kon_latched } }
 
 -- no key-on waits, and none was taken
 pub record IsUnkeyed (s : ChipState) : Type 0 where
-  pub waiting : s.hidden.waiting ≡ 0
-  pub taken : s.hidden.taken ≡ 0
+  pub kon_pending : s.hidden.kon_pending ≡ 0
+  pub kon_latched : s.hidden.kon_latched ≡ 0
 
 -- the noise once so many samples are made, from number k on: it goes on where its rate fires
 unfoldable pub noise_after : (rate k noise : ℕ) → (samples : ℕ) → ℕ

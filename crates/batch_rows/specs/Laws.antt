@@ -6,7 +6,7 @@ use Rattle.voice_unit.specs.declared.interface.VoiceOut.{VoiceOut}
 use Rattle.echo_unit.specs.Cells.{cell_after}
 use Rattle.echo_unit.specs.Flg.{has_echo_writes}
 use Rattle.reach_map.specs.Reach.{window_pages}
-use Rattle.chip_form.specs.Limits.{most_samples_of_batch}
+use Rattle.chip_form.specs.Limits.{max_samples_of_batch}
 use Rattle.dsp_state.specs.Reach.{chip_window, chip_reach}
 use Rattle.dsp_state.specs.Registers.{echo_regs}
 use Rattle.dsp_state.specs.Sample.{is_polled, sample}
@@ -27,13 +27,13 @@ ApartByRows = (n k : ℕ) (s : ChipState) (memory : List ℕ) → VoicesReadTheS
 -- so are those of a batch from a valid state whose echo can't write what its voices read
 abbrev pub ReachByRows : Type 0
 ReachByRows =
-    (n k : ℕ) (s : ChipState) (memory : List ℕ) → n ≤ most_samples_of_batch → is_valid s ≡ true → (chip_reach s memory).entangled ≡ false
+    (n k : ℕ) (s : ChipState) (memory : List ℕ) → n ≤ max_samples_of_batch → is_valid s ≡ true → (chip_reach s memory).entangled ≡ false
     → samples sample n k s memory ≡ by_rows n k s memory
 
 -- so are those of a batch from a valid state whose cells of the echo have no byte that a voice can read in it
 abbrev pub BytesByRows : Type 0
 BytesByRows =
-    (n k : ℕ) (s : ChipState) (memory : List ℕ) → n ≤ most_samples_of_batch → is_valid s ≡ true
+    (n k : ℕ) (s : ChipState) (memory : List ℕ) → n ≤ max_samples_of_batch → is_valid s ≡ true
     → CellsMissVoices (cell_after s.hidden.echo (echo_regs s.registers)) s memory n 0 s.hidden.voices
     → samples sample n k s memory ≡ by_rows n k s memory
 
@@ -43,7 +43,7 @@ StillByRows =
     (n k : ℕ) (s : ChipState) (memory : List ℕ) → has_echo_writes (slice_index s.registers FLG) ≡ false
     → samples sample n k s memory ≡ by_rows n k s memory
 
--- where the window has no page of what voices can read from afar, the reach isn't entangled
+-- where the window has no page of the conservative bounds of what voices can read, the reach isn't entangled
 abbrev pub FarChainsApart : Type 0
 FarChainsApart =
     (s : ChipState) (memory : List ℕ)
@@ -59,5 +59,5 @@ ResultsOnce =
 -- a poll after the first of a batch takes no key-ons
 abbrev pub KeysOnce : Type 0
 KeysOnce =
-    (k : ℕ) (s : ChipState) (i more : ℕ) → s.hidden.waiting < 0x100 → is_polled (k + i) ≡ true → is_polled (k + suc (more + i)) ≡ true
-    → (keys_after k s (suc (suc (more + i)))).hidden.taken ≡ 0
+    (k : ℕ) (s : ChipState) (i more : ℕ) → s.hidden.kon_pending < 0x100 → is_polled (k + i) ≡ true → is_polled (k + suc (more + i)) ≡ true
+    → (keys_after k s (suc (suc (more + i)))).hidden.kon_latched ≡ 0

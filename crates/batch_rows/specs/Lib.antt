@@ -3,7 +3,7 @@
 -- Apart: that the voices of a batch read nothing that its echo writes.
 -- AddsEcho: what is there once the echo has played over a batch.
 -- Once: what a batch does once.
--- Afar: what voices can read, from afar.
+-- Afar: what voices can read, by conservative bounds.
 -- CellLine: cells of the echo that stand one after another.
 -- KeyRows: the rows of keys and noise that the voices of a batch read.
 -- KeysAndNoise: the keys and the noise of a batch, each by itself.

@@ -2,7 +2,7 @@
 use Rattle.std.specs.Prelude.{◌≡◌, ℕ, ◌+◌, ◌<◌, ◌≤◌, List, slice_index}
 use Rattle.rate_clock.specs.Counter.{counter_at}
 use Rattle.voice_unit.specs.declared.batch.VoiceView.{VoiceView}
-use Rattle.chip_form.specs.Limits.{most_samples_of_chip, most_samples_of_batch}
+use Rattle.chip_form.specs.Limits.{max_samples_of_chip, max_samples_of_batch}
 use Rattle.dsp_state.specs.Registers.{is_soft_reset}
 use Rattle.chip_form.specs.Samples.{SamplesResult}
 use Rattle.dsp_state.specs.declared.registers.TheConstants.{DIR, PMON, NON, KOFF, FLG}
@@ -26,8 +26,8 @@ voice_view registers v = record {
 -- the samples of a batch are some, and no more than a batch and a chip may have, and their clock is that of the first
 pub record IsBatch (samples : BatchSamples) : Type 0 where
   pub some : 0 < samples.n
-  pub few : samples.n ≤ most_samples_of_batch
-  pub number : samples.number + samples.n ≤ most_samples_of_chip
+  pub few : samples.n ≤ max_samples_of_batch
+  pub number : samples.number + samples.n ≤ max_samples_of_chip
   pub clock : samples.clock ≡ counter_at samples.number
 
 -- the samples of a batch by rows, from a state and a memory

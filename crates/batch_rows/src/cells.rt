@@ -4,7 +4,7 @@
 ghost use Rattle.std.specs.Prelude.{◌≡◌, ◌≤◌, ◌<◌, ◌+◌, ◌*◌, ℕ, true};
 ghost use Rattle.aram_core.specs.Memory.{byte_at};
 ghost use Rattle.brr_decode.specs.Header.{next_block};
-ghost use Rattle.chip_form.specs.Limits.{most_samples_of_batch};
+ghost use Rattle.chip_form.specs.Limits.{max_samples_of_batch};
 ghost use Rattle.dsp_state.specs.Valid.{is_valid};
 ghost use Rattle.reach_laws.specs.CellsMiss.{CellsMiss, CellsMissChain, CellsMissVoice, CellsMissVoices};
 ghost use Rattle.batch_rows.specs.Apart.{VoicesReadTheSame};
@@ -43,7 +43,7 @@ fn next_block(memory: &Aram, block: u16, loop_word: u16) -> u16
 
 /// How many of so many cells in line have no byte of a chain that a voice comes to by then, as the chain is walked.
 fn walked_cells(memory: &Aram, chain: ChainStart, first: u16, cells: u8) -> u8
-    requires { cells ≤ most_samples_of_batch }
+    requires { cells ≤ max_samples_of_batch }
     ensures few { result ≤ cells }
     ensures miss { CellsMissChain (line_from first) memory.now result chain }
 {
@@ -62,7 +62,7 @@ fn walked_cells(memory: &Aram, chain: ChainStart, first: u16, cells: u8) -> u8
 /// How many of so many cells in line have no byte of a chain that a voice comes to by then. The chain is walked only where the cells are near to
 /// its start or to its loop word.
 fn chain_cells(memory: &Aram, chain: ChainStart, first: u16, cells: u8) -> u8
-    requires { cells ≤ most_samples_of_batch }
+    requires { cells ≤ max_samples_of_batch }
     ensures few { result ≤ cells }
     ensures miss { CellsMissChain (line_from first) memory.now result chain }
 {
@@ -77,7 +77,7 @@ fn chain_cells(memory: &Aram, chain: ChainStart, first: u16, cells: u8) -> u8
 /// How many of so many cells in line have no byte that voice `v` can read by then.
 fn voice_cells(state: &ChipState, memory: &Aram, v: u8, voice: &Voice, first: u16, cells: u8) -> u8
     requires voice { v < 8 }
-    requires cells { cells ≤ most_samples_of_batch }
+    requires cells { cells ≤ max_samples_of_batch }
     ensures few { result ≤ cells }
     ensures miss { CellsMissVoice (line_from first) state.now memory.now result v voice.now }
 {
@@ -97,7 +97,7 @@ fn voice_cells(state: &ChipState, memory: &Aram, v: u8, voice: &Voice, first: u1
 
 /// How many of so many cells in line have no byte that a voice can read by then.
 fn voices_cells(state: &ChipState, memory: &Aram, first: u16, cells: u8) -> u8
-    requires { cells ≤ most_samples_of_batch }
+    requires { cells ≤ max_samples_of_batch }
     ensures few { result ≤ cells }
     ensures miss { CellsMissVoices (line_from first) state.now memory.now result 0 state.now.hidden.voices }
 {
@@ -109,10 +109,10 @@ fn voices_cells(state: &ChipState, memory: &Aram, first: u16, cells: u8) -> u8
     left
 }
 
-/// How many of the next n samples write no byte that a voice can read in them. Fewer are free: no clause says how many are told, and the
+/// How many of the next n samples write no byte that a voice can read in them. It may report fewer: no clause says how many, and the
 /// others are then made one by one.
 pub fn samples_apart(state: &ChipState, memory: &Aram, n: u8) -> u8
-    requires { n ≤ most_samples_of_batch }
+    requires { n ≤ max_samples_of_batch }
     ensures few { result ≤ n }
     ensures same { (k : ℕ) → is_valid state.now ≡ true → VoicesReadTheSame result k state.now memory.now }
 {

@@ -3,7 +3,7 @@
 ghost use Rattle.std.specs.Prelude.{◌≤◌, ◌+◌, length};
 ghost use Rattle.trace_form.specs.Rooms.{frame_room};
 ghost use Rattle.echo_unit.specs.EchoOverBatch.{echo_over_sums};
-ghost use Rattle.chip_form.specs.Limits.{most_samples_of_batch};
+ghost use Rattle.chip_form.specs.Limits.{max_samples_of_batch};
 ghost use Rattle.batch_rows.specs.AddsEcho.{AddsEcho};
 
 use aram_core::Aram;
@@ -19,7 +19,7 @@ pub fn play_echo(
     memory: &mut Aram,
     frames: &mut Frames,
 )
-    requires few { n ≤ most_samples_of_batch }
+    requires few { n ≤ max_samples_of_batch }
     requires frame_room { length frames.old + n ≤ frame_room }
     ensures { AddsEcho (echo_over_sums regs.now sums.now echo.old memory.old n) echo.new memory.new frames.old frames.new }
 {

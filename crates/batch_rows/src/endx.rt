@@ -2,7 +2,7 @@
 
 ghost use Rattle.std.specs.Prelude.{◌≡◌, ◌≤◌, ◌<◌, ℕ, List, true, false, get_or, slice_index, if◌then◌else◌};
 ghost use Rattle.voice_unit.specs.declared.interface.VoiceOut.{VoiceOut};
-ghost use Rattle.chip_form.specs.Limits.{most_samples_of_batch};
+ghost use Rattle.chip_form.specs.Limits.{max_samples_of_batch};
 ghost use Rattle.batch_rows.specs.Once.{endx_after, AreBits};
 
 use dsp_state::next_endx;
@@ -11,7 +11,7 @@ use voice_unit::BatchRows;
 
 /// The voices that are keyed in sample `j`, as bits.
 pub(crate) fn keyed_in(rows: &BatchRows, j: u8) -> u8
-    requires { j < most_samples_of_batch }
+    requires { j < max_samples_of_batch }
     ensures { result ≡ (if get_or rows.now.poll j false then slice_index rows.now.kon j else 0) }
 {
     let place = usize::from(j);
@@ -27,7 +27,7 @@ fn are_none_taken(rows: &BatchRows) -> bool
 
 /// ENDX after n samples of a batch in which no voice is keyed: it gains the voices that ended.
 fn gained_endx(endx: u8, n: u8, rows: &BatchRows, ends: &[u8; BATCH_SIZE]) -> u8
-    requires few { n ≤ most_samples_of_batch }
+    requires few { n ≤ max_samples_of_batch }
     requires unkeyed { (j : ℕ) → j < BATCH_SIZE → slice_index rows.now.kon j ≡ 0 }
     ensures { (answers : ℕ → List VoiceOut) → AreBits n answers rows.now ends.now → result ≡ endx_after answers endx n }
 {
@@ -40,7 +40,7 @@ fn gained_endx(endx: u8, n: u8, rows: &BatchRows, ends: &[u8; BATCH_SIZE]) -> u8
 
 /// ENDX after n samples of a batch: in each it gains the voices that ended and then loses those that were keyed.
 pub fn endx_of_batch(endx: u8, n: u8, rows: &BatchRows, ends: &[u8; BATCH_SIZE]) -> u8
-    requires few { n ≤ most_samples_of_batch }
+    requires few { n ≤ max_samples_of_batch }
     ensures { (answers : ℕ → List VoiceOut) → AreBits n answers rows.now ends.now → result ≡ endx_after answers endx n }
 {
     if are_none_taken(rows) {

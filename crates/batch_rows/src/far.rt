@@ -1,4 +1,4 @@
-//! Whether the echo can write what the voices read, seen from afar: no chain is walked.
+//! Whether the echo can write what the voices read, by a conservative test that walks no chain.
 
 ghost use Rattle.std.specs.Prelude.{◌≡◌, ◌<◌, ◌≤◌, ◌%◌, true, false, not, slice_index};
 ghost use Rattle.aram_core.specs.declared.aram.TheConstants.{MEMORY_SIZE, PAGE_SIZE};
@@ -78,7 +78,7 @@ fn whole_pages(len: u32) -> u32
     (len + (page - 1)) / page * page
 }
 
-/// Whether what the voices can read has no page of the echo's window, seen from afar.
+/// Whether what the voices can read has no page of the echo's window, by a conservative test.
 fn is_apart_from_afar(state: &ChipState, memory: &Aram) -> bool
     ensures { result ≡ true → (chip_reach state.now memory.now).entangled ≡ false }
 {
@@ -101,7 +101,7 @@ fn is_still(state: &ChipState) -> bool
     !has_echo_writes(state.registers[FLG])
 }
 
-/// Whether it is seen from afar that the echo can't write what the voices read in the next 64 samples. A `false` is free: no clause says
+/// Whether a conservative test shows that the echo can't write what the voices read in the next 64 samples. `false` may come at any time: no clause says
 /// when it comes, and whoever gets it looks closer.
 pub fn is_echo_apart_from_afar(state: &ChipState, memory: &Aram) -> bool
     ensures { result ≡ true → (chip_reach state.now memory.now).entangled ≡ false }
@@ -113,7 +113,7 @@ pub fn is_echo_apart_from_afar(state: &ChipState, memory: &Aram) -> bool
     is_apart_from_afar(state, memory)
 }
 
-/// Whether the echo can't write what the voices read in the next 64 samples. Chains are walked only where it can't be told from afar.
+/// Whether the echo can't write what the voices read in the next 64 samples. Chains are walked only where the conservative test fails.
 pub fn is_echo_apart(state: &ChipState, memory: &Aram) -> bool
     ensures { result ≡ not (chip_reach state.now memory.now).entangled }
 {

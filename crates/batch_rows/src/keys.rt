@@ -2,7 +2,7 @@
 
 ghost use Rattle.std.specs.Prelude.{◌≡◌, ◌≤◌, ◌+◌, ◌<◌, ℕ, suc, true, false, get_or, slice_index, replicate};
 ghost use Rattle.rate_clock.specs.Counter.{counter_at, counter_after, fires};
-ghost use Rattle.chip_form.specs.Limits.{most_samples_of_chip, most_samples_of_batch};
+ghost use Rattle.chip_form.specs.Limits.{max_samples_of_chip, max_samples_of_batch};
 ghost use Rattle.dsp_state.specs.Registers.{noise_rate};
 ghost use Rattle.dsp_state.specs.Sample.{is_polled, after_poll, after_noise};
 ghost use Rattle.dsp_state.specs.declared.registers.TheConstants.{FLG};
@@ -32,8 +32,8 @@ pub fn poll(state: &mut ChipState, number: u32)
     ensures muted { state.new.muted ≡ state.old.muted }
 {
     if is_polled(number) {
-        state.hidden.waiting &= 0xff - state.hidden.taken;
-        state.hidden.taken = state.hidden.waiting;
+        state.hidden.kon_pending &= 0xff - state.hidden.kon_latched;
+        state.hidden.kon_latched = state.hidden.kon_pending;
     }
 }
 
@@ -57,7 +57,7 @@ fn keyed_samples(state: &ChipState, n: u8) -> u8
     ensures few { result ≤ n }
     ensures rest { (k : ℕ) → result < n → IsUnkeyed (keys_after k state.now result) }
 {
-    if state.hidden.waiting == 0 && state.hidden.taken == 0 {
+    if state.hidden.kon_pending == 0 && state.hidden.kon_latched == 0 {
         0
     } else {
         n.min(KEYED_SAMPLES)
@@ -66,16 +66,16 @@ fn keyed_samples(state: &ChipState, n: u8) -> u8
 
 /// Polls the keys in n samples from a number on, and gives the key-ons that are taken in each.
 fn poll_each(state: &mut ChipState, number: u32, n: u8) -> [u8; BATCH_SIZE]
-    requires few { n ≤ most_samples_of_batch }
-    requires number { number + n ≤ most_samples_of_chip }
+    requires few { n ≤ max_samples_of_batch }
+    requires number { number + n ≤ max_samples_of_chip }
     ensures state { state.new ≡ with_keys_of state.old (keys_after number state.old n) }
-    ensures taken { (j : ℕ) → j < n → slice_index result j ≡ (keys_after number state.old (suc j)).hidden.taken }
+    ensures kon_latched { (j : ℕ) → j < n → slice_index result j ≡ (keys_after number state.old (suc j)).hidden.kon_latched }
 {
     let mut kon = [0; BATCH_SIZE];
     let keyed = keyed_samples(state, n);
     for j in 0..keyed {
         poll(state, number + u32::from(j));
-        kon[usize::from(j)] = state.hidden.taken;
+        kon[usize::from(j)] = state.hidden.kon_latched;
     }
     kon
 }
@@ -108,7 +108,7 @@ fn next_firing(at: u8, n: u8, between: u16) -> u8
 
 /// Steps the noise through n samples, from one firing of its rate to the next, and gives the noise of each.
 fn step_noise_each(noise: &mut Noise, n: u8, rate: u8, first: &RateClock) -> [u16; BATCH_SIZE]
-    requires few { n ≤ most_samples_of_batch }
+    requires few { n ≤ max_samples_of_batch }
     requires rate { rate < 32 }
     ensures noise { (k : ℕ) → first.now ≡ counter_at k → noise.new ≡ noise_after rate k noise.old n }
     ensures row { (k j : ℕ) → first.now ≡ counter_at k → j < n → slice_index result j ≡ noise_after rate k noise.old (suc j) }
@@ -128,7 +128,7 @@ fn step_noise_each(noise: &mut Noise, n: u8, rate: u8, first: &RateClock) -> [u1
 
 /// Which samples poll the keys, from a number on.
 fn polls_from(number: u32) -> [bool; BATCH_SIZE]
-    ensures { (j : ℕ) → j < most_samples_of_batch → get_or result j false ≡ is_polled (number + j) }
+    ensures { (j : ℕ) → j < max_samples_of_batch → get_or result j false ≡ is_polled (number + j) }
 {
     let odd = (number % 2) as u8;
     let mut polls = [false; BATCH_SIZE];
@@ -142,7 +142,7 @@ fn polls_from(number: u32) -> [bool; BATCH_SIZE]
 fn idle_rows(state: &ChipState, number: u32) -> BatchRows
     ensures noise { result.noise ≡ replicate BATCH_SIZE state.now.hidden.noise }
     ensures kon { result.kon ≡ replicate BATCH_SIZE 0 }
-    ensures polls { (j : ℕ) → j < most_samples_of_batch → get_or result.poll j false ≡ is_polled (number + j) }
+    ensures polls { (j : ℕ) → j < max_samples_of_batch → get_or result.poll j false ≡ is_polled (number + j) }
     ensures bound { state.now.hidden.noise < 0x8000 }
 {
     BatchRows::unkeyed([state.hidden.noise.value(); BATCH_SIZE], polls_from(number))
@@ -163,7 +163,7 @@ pub fn step_keys(state: &mut ChipState, samples: &BatchSamples, rate: u8) -> Bat
     ensures state { state.new ≡ keys_after samples.now.number state.old samples.now.n }
     ensures rows { AreKeyRows samples.now.number samples.now.n state.old result }
     ensures noise { (j : ℕ) → j < samples.now.n → slice_index result.noise j < 0x8000 }
-    ensures taken { (j : ℕ) → j < samples.now.n → slice_index result.kon j < 0x100 }
+    ensures kon_latched { (j : ℕ) → j < samples.now.n → slice_index result.kon j < 0x100 }
     ensures registers { state.new.registers ≡ state.old.registers }
 {
     let number = samples.number;

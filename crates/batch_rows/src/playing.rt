@@ -2,7 +2,7 @@
 
 ghost use Rattle.std.specs.Prelude.{◌≡◌, ◌<◌, ◌≤◌, ◌+◌, ◌-◌, ◌^◌, ℕ, length, replicate, slice_index};
 ghost use Rattle.num_fix.specs.SignedWords.{number_at};
-ghost use Rattle.chip_form.specs.Limits.{most_samples_of_batch};
+ghost use Rattle.chip_form.specs.Limits.{max_samples_of_batch};
 ghost use Rattle.dsp_state.specs.declared.state.ChipState.{ChipState};
 ghost use Rattle.batch_rows.specs.Reads.{AreReadsOf};
 ghost use Rattle.batch_rows.specs.PlayedBatch.{IsPlayedBatch};
@@ -59,13 +59,13 @@ pub fn play_voice(
 ) -> VoiceOut
     requires voice { v < 8 }
     requires some { 0 < n }
-    requires few { n ≤ most_samples_of_batch }
+    requires few { n ≤ max_samples_of_batch }
     requires noise { (j : ℕ) → j < n → slice_index reads.now.rows.now.noise j < 0x8000 }
-    requires lower { (j : ℕ) → j < most_samples_of_batch → slice_index made.old.ends j < 2 ^ v }
+    requires lower { (j : ℕ) → j < max_samples_of_batch → slice_index made.old.ends j < 2 ^ v }
     ensures played { (k : ℕ) (s : ChipState) → AreReadsOf k n s reads.now
         → let lane : LaneMade = record { voice = voice.new; row = made.new.outs; ends = made.new.ends; last = result } in
         IsPlayedLane (inputs k s reads.now.memory.now) v n (number_at previous.now) voice.old made.old.ends lane }
-    ensures lower { (j : ℕ) → j < most_samples_of_batch → slice_index made.new.ends j < 2 ^ (v + 1) }
+    ensures lower { (j : ℕ) → j < max_samples_of_batch → slice_index made.new.ends j < 2 ^ (v + 1) }
 {
     let own = reads.of_voice(v);
     voice.play(n, &own, previous, work, made)
@@ -88,7 +88,7 @@ fn play_each(
     made: &mut PlayedBatch,
 )
     requires some { 0 < n }
-    requires few { n ≤ most_samples_of_batch }
+    requires few { n ≤ max_samples_of_batch }
     requires noise { (j : ℕ) → j < n → slice_index reads.now.rows.now.noise j < 0x8000 }
     ensures played { (k : ℕ) (s : ChipState) → AreReadsOf k n s reads.now
         → let shared = inputs k s reads.now.memory.now in
@@ -127,7 +127,7 @@ pub fn play_voices(
     made: &mut PlayedBatch,
 )
     requires some { 0 < n }
-    requires few { n ≤ most_samples_of_batch }
+    requires few { n ≤ max_samples_of_batch }
     requires noise { (j : ℕ) → j < n → slice_index reads.now.rows.now.noise j < 0x8000 }
     ensures played { (k : ℕ) (s : ChipState) → AreReadsOf k n s reads.now
         → let shared = inputs k s reads.now.memory.now in

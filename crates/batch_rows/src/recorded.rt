@@ -4,7 +4,7 @@ ghost use Rattle.std.specs.Prelude.{◌≡◌, ◌≤◌, ◌<◌, ◌+◌, ◌*
 ghost use Rattle.num_fix.specs.SignedWords.{number_at};
 ghost use Rattle.trace_form.specs.Rooms.{frame_room, record_room};
 ghost use Rattle.voice_unit.specs.RunOfVoice.{outs_of};
-ghost use Rattle.chip_form.specs.Limits.{most_samples_of_batch};
+ghost use Rattle.chip_form.specs.Limits.{max_samples_of_batch};
 ghost use Rattle.chip_form.specs.Samples.{AddsSamples};
 ghost use Rattle.dsp_state.specs.Settings.{settings_of};
 ghost use Rattle.dsp_state.specs.declared.state.ChipState.{ChipState};
@@ -32,7 +32,7 @@ fn run_voice(
     out: &mut OutRow,
 )
     requires voice { v < 8 }
-    requires few { n ≤ most_samples_of_batch }
+    requires few { n ≤ max_samples_of_batch }
     requires noise { (j : ℕ) → j < n → slice_index reads.now.rows.now.noise j < 0x8000 }
     ensures { (k : ℕ) (s : ChipState) → AreReadsOf k n s reads.now
         → IsRunLane (inputs k s reads.now.memory.now) v n (number_at (outs_of previous.now)) voice.old voice.new out.new }
@@ -43,7 +43,7 @@ fn run_voice(
 
 /// All voices over a batch of n samples, and what they give in each.
 fn run_voices(voices: &mut [Voice; 8], n: u8, reads: &BatchReads, outs: &mut [OutRow; 8])
-    requires few { n ≤ most_samples_of_batch }
+    requires few { n ≤ max_samples_of_batch }
     requires noise { (j : ℕ) → j < n → slice_index reads.now.rows.now.noise j < 0x8000 }
     ensures run { (k : ℕ) (s : ChipState) → AreReadsOf k n s reads.now
         → IsRunBatch (inputs k s reads.now.memory.now) n voices.old voices.new outs.new }
@@ -63,7 +63,7 @@ fn run_voices(voices: &mut [Voice; 8], n: u8, reads: &BatchReads, outs: &mut [Ou
 
 /// What the voices give in sample `j`.
 fn answers_in(outs: &[OutRow; 8], j: u8) -> [VoiceOut; 8]
-    requires { j < most_samples_of_batch }
+    requires { j < max_samples_of_batch }
     ensures { result ≡ answers_in outs.now j }
 {
     let place = usize::from(j);

@@ -3,7 +3,7 @@
 ghost use Rattle.std.specs.Prelude.{◌≡◌, ◌<◌, ℕ, ℤ, pos, ◌+ℤ◌, ◌*ℤ◌, neg_ℤ, ◌≤ℤ◌, ◌<ℤ◌, replicate, true, unsigned_abs};
 ghost use Rattle.num_fix.specs.Arithmetic.{clamp16, scaled};
 ghost use Rattle.num_fix.specs.SignedWords.{number_at};
-ghost use Rattle.chip_form.specs.Limits.{most_samples_of_batch};
+ghost use Rattle.chip_form.specs.Limits.{max_samples_of_batch};
 ghost use Rattle.batch_rows.specs.SumRows.{HasShares, IsSilentRow};
 
 use dsp_state::{Volumes, with_share};
@@ -28,7 +28,7 @@ fn with_soft_share(sum: i16, out: i16, factor: i16) -> i16
 fn factors_of(volume: i16) -> [i16; BATCH_SIZE]
     requires least { neg_ℤ (pos 64) ≤ℤ volume }
     requires most { volume <ℤ pos 64 }
-    ensures { (j : ℕ) → j < most_samples_of_batch → number_at result j ≡ volume *ℤ pos 512 }
+    ensures { (j : ℕ) → j < max_samples_of_batch → number_at result j ≡ volume *ℤ pos 512 }
 {
     let factor = volume * 512;
     [factor; BATCH_SIZE]
@@ -56,7 +56,7 @@ fn with_strong_share(sum: i16, out: i16, factor: i16) -> i16
     add_clamped(sum, add_clamped(out, high_product(out, factor)))
 }
 
-/// Adds the shares of a voice at a volume from 64 to 127. Inlined, as the softer ones.
+/// Adds the shares of a voice at a volume from 64 to 127. Inlined, as those of smaller volumes.
 #[inline(always)]
 fn add_strong_row(sums: &mut [i16; BATCH_SIZE], outs: &[i16; BATCH_SIZE], volume: i16)
     requires least { pos 64 ≤ℤ volume }
@@ -69,7 +69,7 @@ fn add_strong_row(sums: &mut [i16; BATCH_SIZE], outs: &[i16; BATCH_SIZE], volume
     }
 }
 
-/// Adds the shares of a voice at any volume. It stands apart, since few volumes want it.
+/// Adds the shares of a voice at any volume. Out of line, since few volumes want it.
 #[inline(never)]
 fn add_loud_row(sums: &mut [i16; BATCH_SIZE], outs: &[i16; BATCH_SIZE], volume: i16)
     ensures { HasShares outs.now volume sums.old sums.new }
@@ -86,7 +86,7 @@ fn is_limited(sum: i16)
 
 /// The sums of a row are within the limits of 16 bits. Nothing runs.
 fn are_limited(sums: &[i16; BATCH_SIZE])
-    ensures { (j : ℕ) → j < most_samples_of_batch → clamp16 (number_at sums.now j) ≡ number_at sums.now j }
+    ensures { (j : ℕ) → j < max_samples_of_batch → clamp16 (number_at sums.now j) ≡ number_at sums.now j }
 {
     for j in 0..BATCH_SIZE {
         is_limited(sums[j]);
@@ -150,7 +150,7 @@ fn is_silent_row(outs: &[i16; BATCH_SIZE]) -> bool
     silent
 }
 
-/// Whether each output of a row is 0. Most rows of voices that sound are told by their first output.
+/// Whether each output of a row is 0. Most rows of voices that sound are recognized by their first output.
 fn is_silent(outs: &[i16; BATCH_SIZE]) -> bool
     ensures { result ≡ true → IsSilentRow outs.now }
 {

@@ -5,7 +5,7 @@ use Rattle.std.proofs.lemmas.List.{get_or_append_left, get_or-take, get_or-drop,
 use Rattle.std.proofs.lemmas.Bool.Decides.{nat_tests}
 use Rattle.num_fix.specs.SignedWords.{number_at}
 use Rattle.brr_decode.specs.Kept.{EndsWith, sample_from_end, with_group}
-use Rattle.brr_decode.specs.Remembered.{byte_of, IsGroupAt, with_groups}
+use Rattle.brr_decode.specs.CachedBlocks.{byte_of, IsGroupAt, with_groups}
 use Rattle.brr_decode.proofs.Samples.{EndsWith-append}
 
 -- four numbers put into a row after the first ones

@@ -1,10 +1,10 @@
--- What tells a block that is remembered.
+-- What shows a block that is cached.
 use Rattle.std.specs.Prelude.{◌≡◌, ℕ, ◌+◌, ◌*◌, ◌≤◌, ℤ}
 use Rattle.num_fix.specs.SignedWords.{number_at}
-use Rattle.brr_decode.specs.declared.remembered.RememberedBlock.{RememberedBlock}
+use Rattle.brr_decode.specs.declared.remembered.CachedBlock.{CachedBlock}
 
 -- a block was decoded from such a header and such digits, from a group on or from one before it, after the samples p2 and p1
-pub record WasDecodedFrom (block : RememberedBlock) (header digits group : ℕ) (p1 p2 : ℤ) : Type 0 where
+pub record WasDecodedFrom (block : CachedBlock) (header digits group : ℕ) (p1 p2 : ℤ) : Type 0 where
   pub header_is : block.header ≡ header
   pub digits_are : block.digits ≡ digits
   pub reaches_back : block.from ≤ group

@@ -1,4 +1,4 @@
-// Groups of four digits, and blocks of sixteen. The filter and the shift of a group are told apart once: all of a digit is inlined under them.
+// Groups of four digits, and blocks of sixteen. The filter and the shift of a group are distinguished once: all of a digit is inlined under them.
 ghost use Rattle.std.specs.Prelude.{◌≡◌, ◌++◌, List, ℤ};
 ghost use Rattle.num_fix.specs.Arithmetic.{sign4};
 ghost use Rattle.brr_decode.specs.Header.{filter_of};

@@ -3,26 +3,26 @@
 ghost use Rattle.std.specs.Prelude.{◌≡◌, ◌<◌, ◌≤◌, ◌+◌, ◌*◌, ℕ, true, length, take};
 ghost use Rattle.brr_decode.specs.Header.{filter_of};
 ghost use Rattle.brr_decode.specs.Known.{WasDecodedFrom};
-ghost use Rattle.brr_decode.specs.Remembered.{with_groups};
+ghost use Rattle.brr_decode.specs.CachedBlocks.{with_groups};
 
 use crate::OutOfMemory;
 use crate::block::group_under;
 use crate::digit::filter_of;
-use crate::remembered::{RememberedBlock, byte_of};
+use crate::remembered::{CachedBlock, byte_of};
 use std::alloc::Global;
 use std::marker::Model;
 
-/// How many blocks are remembered.
+/// How many blocks are cached.
 const REMEMBERED_BLOCKS: usize = 2048;
 
-/// The place of the block at an address among the remembered blocks.
+/// The place of the block at an address among the cached blocks.
 fn place_of(address: u16) -> usize
     ensures { result < 2048 }
 {
     usize::from(address / 8 % 2048)
 }
 
-impl RememberedBlock {
+impl CachedBlock {
     /// Decodes a block under the filter of its header, from one of its groups on. Where the filter is a constant, the code of each group is straight.
     #[inline(always)]
     fn decoded_under(
@@ -32,7 +32,7 @@ impl RememberedBlock {
         group: u8,
         p1: i16,
         p2: i16,
-    ) -> RememberedBlock
+    ) -> CachedBlock
         requires group { group < 4 }
         requires filter { filter ≡ filter_of header }
         ensures { WasDecodedFrom result header digits group p1 p2 }
@@ -48,7 +48,7 @@ impl RememberedBlock {
             let kept = group_under(filter, header, high, low, row[at + 1], row[at]);
             row[at + 2..at + 6].copy_from_slice(&kept);
         }
-        RememberedBlock {
+        CachedBlock {
             digits,
             header,
             from: group,
@@ -56,26 +56,26 @@ impl RememberedBlock {
         }
     }
 
-    /// Decodes a block from one of its groups on. Its filter is told apart once for all of them.
-    fn decoded(header: u8, digits: u64, group: u8, p1: i16, p2: i16) -> RememberedBlock
+    /// Decodes a block from one of its groups on. Its filter is distinguished once for all of them.
+    fn decoded(header: u8, digits: u64, group: u8, p1: i16, p2: i16) -> CachedBlock
         requires { group < 4 }
         ensures { WasDecodedFrom result header digits group p1 p2 }
     {
         match filter_of(header) {
-            0 => RememberedBlock::decoded_under(0, header, digits, group, p1, p2),
-            1 => RememberedBlock::decoded_under(1, header, digits, group, p1, p2),
-            2 => RememberedBlock::decoded_under(2, header, digits, group, p1, p2),
-            _ => RememberedBlock::decoded_under(3, header, digits, group, p1, p2),
+            0 => CachedBlock::decoded_under(0, header, digits, group, p1, p2),
+            1 => CachedBlock::decoded_under(1, header, digits, group, p1, p2),
+            2 => CachedBlock::decoded_under(2, header, digits, group, p1, p2),
+            _ => CachedBlock::decoded_under(3, header, digits, group, p1, p2),
         }
     }
 
-    /// Puts a decoded block in place of this one. It stands apart, so that what finds a remembered block makes no room for another.
+    /// Puts a decoded block in place of this one. Out of line, so that what finds a cached block makes no room for another.
     #[inline(never)]
     fn replace(&mut self, header: u8, digits: u64, group: u8, p1: i16, p2: i16)
         requires { group < 4 }
         ensures { WasDecodedFrom self.new header digits group p1 p2 }
     {
-        *self = RememberedBlock::decoded(header, digits, group, p1, p2);
+        *self = CachedBlock::decoded(header, digits, group, p1, p2);
     }
 
     /// Whether the block is one of such a header and such digits, and was decoded after these two samples before one of its groups.
@@ -95,11 +95,11 @@ impl RememberedBlock {
 
 /// The last blocks that were decoded, 2,048 at most. Contracts see nothing of it.
 #[derive(Drop)]
-pub struct BlockMemory {
-    blocks: Vec<RememberedBlock>,
+pub struct BrrCache {
+    blocks: Vec<CachedBlock>,
 }
 
-impl Model for BlockMemory {
+impl Model for BrrCache {
     ghost use Rattle.std.specs.Prelude.{⊤, ◌≡◌, vec_len};
 
     ghost Value = { ⊤ };
@@ -109,19 +109,19 @@ impl Model for BlockMemory {
     ghost invariant = { λ m. vec_len m.blocks ≡ 2048 };
 }
 
-impl BlockMemory {
-    /// A memory that remembers one block, of zeros. No clause is wanted: contracts see nothing of a memory, and by its type each block in it is
+impl BrrCache {
+    /// A cache with one block, of zeros. No clause is wanted: contracts see nothing of a cache, and by its type each block in it is
     /// what it was decoded from.
-    pub fn new(alloc: Global) -> Result<BlockMemory, OutOfMemory> {
-        let zeros = RememberedBlock::decoded(0, 0, 0, 0, 0);
+    pub fn new(alloc: Global) -> Result<BrrCache, OutOfMemory> {
+        let zeros = CachedBlock::decoded(0, 0, 0, 0, 0);
         let blocks = vec![in alloc; zeros; REMEMBERED_BLOCKS]?;
-        Ok(BlockMemory { blocks })
+        Ok(BrrCache { blocks })
     }
 
-    /// The block at an address, decoded from one of its groups on, after the samples `p2` and then `p1`, unless that is remembered. Where the block stands
-    /// tells where it is remembered and no more. Inlined, so that a block that is remembered costs no call.
+    /// The block at an address, decoded from one of its groups on, after the samples `p2` and then `p1`, unless that is cached. Where the block stands
+    /// shows where it is cached and no more. Inlined, so that a block that is cached costs no call.
     #[inline(always)]
-    fn recall(
+    fn lookup(
         &mut self,
         address: u16,
         header: u8,
@@ -129,7 +129,7 @@ impl BlockMemory {
         group: u8,
         p1: i16,
         p2: i16,
-    ) -> &RememberedBlock
+    ) -> &CachedBlock
         requires { group < 4 }
         ensures { WasDecodedFrom result.now header digits group p1 p2 }
     {
@@ -140,7 +140,7 @@ impl BlockMemory {
         &self.blocks[place]
     }
 
-    /// Puts the rest of a block, from one of its groups on, after `len` kept samples of a row. It is decoded unless it is remembered. Sixteen numbers
+    /// Puts the rest of a block, from one of its groups on, after `len` kept samples of a row. It is decoded unless it is cached. Sixteen numbers
     /// are put, so that they are copied at once, by way of a place of their own, which lies apart from both rows; those after the block are of no account.
     #[inline(always)]
     pub fn read_rest(
@@ -159,7 +159,7 @@ impl BlockMemory {
             → take (len + 4 * groups) row.new ≡ with_groups (take len row.old) header digits group groups }
         ensures length { length row.new ≡ length row.old }
     {
-        let known = self.recall(address, header, digits, group, row[len - 1], row[len - 2]);
+        let known = self.lookup(address, header, digits, group, row[len - 1], row[len - 2]);
         let from = 4 * usize::from(group) + 2;
         let mut kept = [0; 16];
         kept.copy_from_slice(&known.row[from..from + 16]);

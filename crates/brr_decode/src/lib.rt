@@ -9,7 +9,7 @@ mod remembered;
 mod stream;
 
 pub use block::{decode_block, decode_group};
-pub use block_memory::BlockMemory;
+pub use block_memory::BrrCache;
 pub use digit::{has_end, has_loop, kept_sample};
 pub use laws::each_sample_is_kept;
 pub use std::alloc::AllocError as OutOfMemory;

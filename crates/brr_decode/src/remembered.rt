@@ -1,10 +1,10 @@
-//! A block that is remembered.
+//! A block that is cached.
 ghost use Rattle.std.specs.Prelude.{◌≡◌, ◌<◌};
-ghost use Rattle.brr_decode.specs.Remembered.{byte_of, IsBlockOf};
+ghost use Rattle.brr_decode.specs.CachedBlocks.{byte_of, IsBlockOf};
 
 /// A block, and what it was decoded from: its header, its digits and the two samples before one of its groups.
 #[derive(Clone, Copy)]
-pub(crate) struct RememberedBlock {
+pub(crate) struct CachedBlock {
     /// Its eight bytes of digits, the first in the low bits.
     pub digits: u64,
     pub header: u8,

@@ -73,17 +73,17 @@ abbrev pub encoding : (samples : List ℤ) → (looped : Bool) → List ℕ
 encoding samples looped = encoding_from 0 samples looped
 
 -- the most blocks of an encoding, and their samples
-abbrev pub most_blocks : ℕ
-most_blocks = 7280
+abbrev pub max_blocks : ℕ
+max_blocks = 7280
 
-abbrev pub most_samples : ℕ
-most_samples = 116480
+abbrev pub max_samples : ℕ
+max_samples = 116480
 
 -- the blocks of samples, or why there are none: of no samples, and of too many
 abbrev pub unless_refused : (samples : List ℤ) → (blocks : List ℕ) → Result (List ℕ) EncodeRefusal
 unless_refused samples blocks =
     if length samples == 0 then Err Empty
-    else if nat_lt most_samples (length samples) then Err TooLong
+    else if nat_lt max_samples (length samples) then Err TooLong
     else Ok blocks
 
 -- the blocks of samples, where a loop goes on from the block of an index, or why there are none

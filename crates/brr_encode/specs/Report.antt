@@ -11,12 +11,12 @@ worst (sample ∷ samples) [] = 0
 worst [] targets = 0
 
 -- the most that the squares of a block can sum to: sixteen times the square of 65,536
-abbrev pub most_squares : ℕ
-most_squares = 2 ^ 36
+abbrev pub max_squares : ℕ
+max_squares = 2 ^ 36
 
 -- a report's squares are no more than a block can have
 abbrev pub IsWithin : BlockReport → Type 0
-IsWithin report = report.squares ≤ most_squares
+IsWithin report = report.squares ≤ max_squares
 
 -- the reports of so many blocks: of each its header, and the errors of its sixteen decoded samples against their targets
 abbrev pub reports_from : (count : ℕ) → (bytes : List ℕ) → (decoded targets : List ℤ) → List BlockReport

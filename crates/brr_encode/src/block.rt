@@ -2,7 +2,7 @@
 ghost use Rattle.std.specs.Prelude.{◌≡◌, ◌+◌, ◌*◌, ◌%◌, ◌^◌, ◌<◌, ◌≤◌, ◌∷◌, ◌++◌, length, pos, IfOk};
 ghost use Rattle.brr_encode.specs.Encoding.{digit_bits, digit_bytes};
 ghost use Rattle.brr_encode.specs.Greedy.{greedy_digits, nearest_digit};
-ghost use Rattle.brr_encode.specs.Report.{most_squares};
+ghost use Rattle.brr_encode.specs.Report.{max_squares};
 ghost use Rattle.brr_encode.specs.EncoderParts.{after_target, after_targets, coder_after};
 
 use crate::OutOfMemory;
@@ -77,7 +77,7 @@ pub fn push_digits(
     requires few { length targets.now ≤ 16 }
     ensures bytes { IfOk result (λ _. bytes.new.items ≡ bytes.old.items ++ digit_bytes (greedy_digits header p1 p2 targets.now)) }
     ensures coder { IfOk result (λ coder. coder ≡ after_targets header (coder_after p1 p2) targets.now) }
-    ensures squares { IfOk result (λ coder. coder.squares ≤ most_squares) }
+    ensures squares { IfOk result (λ coder. coder.squares ≤ max_squares) }
 {
     let mut coder = Coder {
         last: p1,

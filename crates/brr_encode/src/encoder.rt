@@ -1,6 +1,6 @@
 // The blocks of a list of samples.
 ghost use Rattle.std.specs.Prelude.{◌≡◌, ◌+◌, ◌%◌, ◌∷◌, ◌++◌, ◌≤◌, ◌⊎◌, [], All, length, IfOk, IfErr};
-ghost use Rattle.brr_encode.specs.Encoding.{padded_samples, most_samples, most_blocks, encoded_from, encoded_samples, stands_alone, best_header, block_of, end_bits};
+ghost use Rattle.brr_encode.specs.Encoding.{padded_samples, max_samples, max_blocks, encoded_from, encoded_samples, stands_alone, best_header, block_of, end_bits};
 ghost use Rattle.brr_encode.specs.Report.{reports_of, IsWithin};
 ghost use Rattle.brr_encode.specs.EncoderParts.{after_targets, coder_after, block_report};
 ghost use Rattle.brr_encode.specs.declared.encoder.EncodeRefusal.TheVariants.{OutOfMemory as NoMemory};
@@ -11,7 +11,7 @@ use crate::{BlockReport, OutOfMemory};
 use std::alloc::Global;
 
 /// The most samples that are encoded.
-pub const MOST_SAMPLES: usize = 116480;
+pub const MAX_SAMPLES: usize = 116480;
 
 /// Blocks of nine bytes, and a report of each.
 #[derive(Drop)]
@@ -89,10 +89,10 @@ fn push_block(
 
 /// The samples, and after them as many zeros as make whole blocks.
 pub fn padded_samples(alloc: Global, samples: &[i16]) -> Result<Vec<i16>, OutOfMemory>
-    requires { length samples.now ≤ most_samples }
+    requires { length samples.now ≤ max_samples }
     ensures targets { IfOk result (λ targets. targets.items ≡ padded_samples samples.now) }
     ensures whole { IfOk result (λ targets. length targets.items % 16 ≡ 0) }
-    ensures few { IfOk result (λ targets. length targets.items ≤ most_samples) }
+    ensures few { IfOk result (λ targets. length targets.items ≤ max_samples) }
 {
     let count = samples.len().next_multiple_of(16);
     let mut targets = Vec::with_capacity(alloc, count)?;
@@ -121,15 +121,15 @@ pub fn encode_from(
     ensures bytes { IfOk result (λ encoded. encoded_from loop_block samples.now looped ≡ Ok encoded.bytes.items) }
     ensures reports { IfOk result (λ encoded. encoded.reports.items ≡ reports_of encoded.bytes.items (padded_samples samples.now)) }
     ensures within { IfOk result (λ encoded. All IsWithin encoded.reports.items) }
-    ensures few { IfOk result (λ encoded. length encoded.reports.items ≤ most_blocks) }
-    ensures accepted { IfOk result (λ _. length samples.now ≤ most_samples) }
+    ensures few { IfOk result (λ encoded. length encoded.reports.items ≤ max_blocks) }
+    ensures accepted { IfOk result (λ _. length samples.now ≤ max_samples) }
     ensures refused { IfErr (encoded_from loop_block samples.now looped) (λ refusal. result ≡ Err refusal) }
     ensures causes { IfErr result (λ refusal. (encoded_from loop_block samples.now looped ≡ Err refusal) ⊎ (refusal ≡ EncodeRefusal.OutOfMemory)) }
 {
     if samples.is_empty() {
         return Err(EncodeRefusal::Empty);
     }
-    if samples.len() > MOST_SAMPLES {
+    if samples.len() > MAX_SAMPLES {
         return Err(EncodeRefusal::TooLong);
     }
     let targets = padded_samples(alloc, samples)?;
@@ -158,7 +158,7 @@ pub fn encode(alloc: Global, samples: &[i16], looped: bool) -> Result<Encoded, E
     ensures bytes { IfOk result (λ encoded. encoded_samples samples.now looped ≡ Ok encoded.bytes.items) }
     ensures reports { IfOk result (λ encoded. encoded.reports.items ≡ reports_of encoded.bytes.items (padded_samples samples.now)) }
     ensures within { IfOk result (λ encoded. All IsWithin encoded.reports.items) }
-    ensures few { IfOk result (λ encoded. length encoded.reports.items ≤ most_blocks) }
+    ensures few { IfOk result (λ encoded. length encoded.reports.items ≤ max_blocks) }
     ensures refused { IfErr (encoded_samples samples.now looped) (λ refusal. result ≡ Err refusal) }
     ensures causes { IfErr result (λ refusal. (encoded_samples samples.now looped ≡ Err refusal) ⊎ (refusal ≡ EncodeRefusal.OutOfMemory)) }
 {

@@ -10,7 +10,7 @@ mod search;
 
 pub use choice::{Choice, distance, nearest};
 pub use encoder::{
-    EncodeRefusal, Encoded, MOST_SAMPLES, encode, encode_from, end_bits, padded_samples,
+    EncodeRefusal, Encoded, MAX_SAMPLES, encode, encode_from, end_bits, padded_samples,
     stands_alone,
 };
 pub use laws::{best_header_has_the_least_triple, least_place_is_first};

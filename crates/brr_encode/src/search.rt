@@ -75,7 +75,7 @@ struct Cheapest {
     squares: Option<u64>,
 }
 
-/// The cheapest after the header at one more place was tried, of which the costs are told where they are less.
+/// The cheapest after the header at one more place was tried, of which the costs are reported where they are less.
 fn with_tried(cheapest: Cheapest, place: u8, squares: Option<u64>) -> Cheapest
     ensures cheaper { IfSome squares (λ squares. result ≡ record { place = place; squares = Some squares }) }
     ensures same { squares ≡ None → result ≡ cheapest }

@@ -12,11 +12,11 @@ use Rattle.brr_encode.specs.Greedy.{nearest_sample, greedy_digits}
 use Rattle.brr_encode.specs.Encoding.{best_header, end_bits, digit_bytes, block_samples, blocks_of, header_count, padded_samples, stands_alone, encoding_from}
 use Rattle.brr_encode.specs.Triples.{IsAllowedHeader}
 use Rattle.brr_encode.proofs.Triples.{best_header-allowed, header_at-allowed}
-use Rattle.brr_search.specs.Ways.{no_way}
-use Rattle.brr_search.specs.Beam.{best_ways, with_block, fronts, blocks_through}
+use Rattle.brr_search.specs.Candidates.{no_candidate}
+use Rattle.brr_search.specs.Beam.{best_candidates, with_block, fronts, blocks_through}
 use Rattle.brr_search.specs.Found.{searched, is_cheaper, cheaper, cost_of, found_encoding}
 use Rattle.brr_search.specs.Headers.{IsHeaderByte, AreAllowedBlocks}
-use Rattle.brr_search.specs.declared.way.Way.{Way}
+use Rattle.brr_search.specs.declared.candidate.Candidate.{Candidate}
 use Rattle.brr_search.proofs.Headers.{all-best}
 
 -- a block has eight bytes of digits
@@ -100,43 +100,43 @@ module _ (total loop_block : ℕ) (looped : Bool) where
     most : length blocks ≤ 9 * index
     whole : length blocks ≡ 9 * index → AreBlocksTo index blocks
 
-  -- one block more of a way
-  with_way : (index flags : ℕ) (front : ℕ → List ℕ) (found : Option Way) → ((place : ℕ) → AreBlocksIfWhole index (front place))
-      → flags ≡ end_bits (index + 1 == total) looped → ((way : Way) → found ≡ Some way → IsAllowedHeader (stands_alone index loop_block) way.header)
+  -- one block more of a candidate
+  with_candidate : (index flags : ℕ) (front : ℕ → List ℕ) (found : Option Candidate) → ((place : ℕ) → AreBlocksIfWhole index (front place))
+      → flags ≡ end_bits (index + 1 == total) looped → ((candidate : Candidate) → found ≡ Some candidate → IsAllowedHeader (stands_alone index loop_block) candidate.header)
       → AreBlocksIfWhole (suc index) (with_block front flags found)
-  with_way index flags front None before bits allowed = record { most = omega arith; whole = λ sized. absurd (omega (arith, sized)) }
-  with_way index flags front (Some way) before bits allowed =
-      let blocks : List ℕ = front way.start in
-      let digits : List ℕ = to_be_bytes w64 way.digits in
+  with_candidate index flags front None before bits allowed = record { most = omega arith; whole = λ sized. absurd (omega (arith, sized)) }
+  with_candidate index flags front (Some candidate) before bits allowed =
+      let blocks : List ℕ = front candidate.start in
+      let digits : List ℕ = to_be_bytes w64 candidate.digits in
       let eight : length digits ≡ 8 = refl in
-      let all = length-append blocks ((way.header + flags) ∷ digits) in
-      let few = (before way.start).most in
+      let all = length-append blocks ((candidate.header + flags) ∷ digits) in
+      let few = (before candidate.start).most in
       record {
         most = omega (arith, all, few, eight);
         whole = λ sized.
             let full : length blocks ≡ 9 * index = omega (arith, all, sized, eight) in
-            let is : IsHeaderAt index (way.header + flags) = record { header = way.header; allowed = allowed way refl; is = ap (λ (n : ℕ). way.header + n) bits } in
-            one_more index (way.header + flags) blocks digits ((before way.start).whole full) is eight;
+            let is : IsHeaderAt index (candidate.header + flags) = record { header = candidate.header; allowed = allowed candidate refl; is = ap (λ (n : ℕ). candidate.header + n) bits } in
+            one_more index (candidate.header + flags) blocks digits ((before candidate.start).whole full) is eight;
       }
 
-  all-slice_get : (P : Way → Type 0) (ways : List Way) (place : ℕ) (way : Way) → All P ways → slice_get ways place ≡ Some way → P way
-  all-slice_get P [] place way each is = absurd (cc)
-  all-slice_get P (first ∷ ways) zero way each is = let same : first ≡ way = cc in rw (sym same) (All-head P first ways each)
-  all-slice_get P (first ∷ ways) (suc place) way each is = all-slice_get P ways place way (All-tail P first ways each) is
+  all-slice_get : (P : Candidate → Type 0) (candidates : List Candidate) (place : ℕ) (candidate : Candidate) → All P candidates → slice_get candidates place ≡ Some candidate → P candidate
+  all-slice_get P [] place candidate each is = absurd (cc)
+  all-slice_get P (first ∷ candidates) zero candidate each is = let same : first ≡ candidate = cc in rw (sym same) (All-head P first candidates each)
+  all-slice_get P (first ∷ candidates) (suc place) candidate each is = all-slice_get P candidates place candidate (All-tail P first candidates each) is
 
-  -- the blocks along the ways of a search
-  through : (most count index : ℕ) (ways : List Way) (front : ℕ → List ℕ) (targets : List ℤ) → total ≡ index + count
-      → ((place : ℕ) → AreBlocksIfWhole index (front place)) → AreBlocksIfWhole total (blocks_through most count index loop_block looped ways front targets)
-  through most zero index ways front targets all before = let end : total ≡ index = omega (arith, all) in rw (sym end) at (before 0)
-  through most (suc count) index ways front targets all before =
+  -- the blocks along the candidates of a search
+  through : (most count index : ℕ) (candidates : List Candidate) (front : ℕ → List ℕ) (targets : List ℤ) → total ≡ index + count
+      → ((place : ℕ) → AreBlocksIfWhole index (front place)) → AreBlocksIfWhole total (blocks_through most count index loop_block looped candidates front targets)
+  through most zero index candidates front targets all before = let end : total ≡ index = omega (arith, all) in rw (sym end) at (before 0)
+  through most (suc count) index candidates front targets all before =
       let alone : Bool = stands_alone index loop_block in
-      let best : List Way = best_ways most ways (take 16 targets) (header_count alone) in
+      let best : List Candidate = best_candidates most candidates (take 16 targets) (header_count alone) in
       let flags : ℕ = end_bits (count == 0) looped in
       let bits : flags ≡ end_bits (index + 1 == total) looped = ap (λ (b : Bool). end_bits b looped) (is_last index count all) in
-      let each : All (λ way. IsAllowedHeader alone way.header) best =
-      all-best (λ header. IsAllowedHeader alone header) most ways (take 16 targets) (header_count alone) (header_at-allowed alone) in
+      let each : All (λ candidate. IsAllowedHeader alone candidate.header) best =
+      all-best (λ header. IsAllowedHeader alone header) most candidates (take 16 targets) (header_count alone) (header_at-allowed alone) in
       through most count (suc index) best (fronts front flags best) (drop 16 targets) (omega (arith, all)) (λ place.
-      with_way index flags front (slice_get best place) before bits (λ way is. all-slice_get (λ w. IsAllowedHeader alone w.header) best place way each is))
+      with_candidate index flags front (slice_get best place) before bits (λ candidate is. all-slice_get (λ w. IsAllowedHeader alone w.header) best place candidate each is))
 
 module _ (loop_block : ℕ) (samples : List ℤ) (looped : Bool) where
   abbrev targets : List ℤ
@@ -158,23 +158,23 @@ module _ (loop_block : ℕ) (samples : List ℤ) (looped : Bool) where
   unfolding searched
   searched_allowed most cost is_less =
       let blocks : List ℕ = searched most loop_block targets looped in
-      let found = through count loop_block looped most count 0 (no_way ∷ []) (λ _. []) targets (omega arith)
+      let found = through count loop_block looped most count 0 (no_candidate ∷ []) (λ _. []) targets (omega arith)
       (λ place. record { most = omega arith; whole = λ sized. none count loop_block looped }) in
       let same : (length blocks == 9 * count) ≡ true = (and_parts (length blocks == 9 * count) (nat_lt (cost_of blocks targets) cost) is_less).0 in
       allowed_to blocks (found.whole (grind (arith, nat_tests, same)))
 
-  pub found_allowed : (ways : ℕ) → AreAllowedBlocks count loop_block looped (found_encoding ways loop_block samples looped)
+  pub found_allowed : (candidates : ℕ) → AreAllowedBlocks count loop_block looped (found_encoding candidates loop_block samples looped)
   unfolding found_encoding
-  found_allowed ways = by (nat_le ways 1)
+  found_allowed candidates = by (nat_le candidates 1)
     where
       plain : List ℕ
       plain = encoding_from loop_block samples looped
 
       others : List ℕ
-      others = searched (ways - 1) loop_block targets looped
+      others = searched (candidates - 1) loop_block targets looped
 
       choose : (b : Bool) → is_cheaper (cost_of plain targets) targets others ≡ b → AreAllowedBlocks count loop_block looped (if b then others else plain)
-      choose true is = searched_allowed (ways - 1) (cost_of plain targets) is
+      choose true is = searched_allowed (candidates - 1) (cost_of plain targets) is
       choose false is = plain_allowed
 
       by : (b : Bool) → AreAllowedBlocks count loop_block looped (if b then plain else cheaper targets plain others)

@@ -6,7 +6,7 @@ use Rattle.std.specs.Option.{option_map}
 use Rattle.std.proofs.lemmas.Option.{slice_get-map}
 use Rattle.brr_search.specs.Beam.{with_block, fronts}
 use Rattle.brr_search.specs.Links.{link_of, with_link, blocks_along}
-use Rattle.brr_search.specs.declared.way.Way.{Way}
+use Rattle.brr_search.specs.declared.candidate.Candidate.{Candidate}
 use Rattle.brr_search.specs.declared.links.Link.{Link}
 use Rattle.brr_search.specs.declared.links.Row.{Row}
 
@@ -21,16 +21,16 @@ pub taken : (old new : List Row) (row : Row) (place : ℕ) (link : Option Link) 
 taken old new row place None e is = along_row old new row place e ∙ ap (with_link (blocks_along (reverse new))) (sym is)
 taken old new row place (Some link) e is = along_row old new row place e ∙ ap (with_link (blocks_along (reverse new))) (sym is)
 
-with_linked : (front : ℕ → List ℕ) (flags : ℕ) (way : Option Way) → with_link front (option_map (link_of flags) way) ≡ with_block front flags way
+with_linked : (front : ℕ → List ℕ) (flags : ℕ) (candidate : Option Candidate) → with_link front (option_map (link_of flags) candidate) ≡ with_block front flags candidate
 with_linked front flags None = refl
-with_linked front flags (Some way) = refl
+with_linked front flags (Some candidate) = refl
 
--- a row more: the blocks of each way with those before them
-pub row_fronts : (old new : List Row) (row : Row) (flags : ℕ) (ways : List Way) → new ≡ old ++ row ∷ [] → row.links.items ≡ map (link_of flags) ways
-    → (place : ℕ) → blocks_along (reverse new) place ≡ fronts (blocks_along (reverse old)) flags ways place
-row_fronts old new row flags ways e is place =
+-- a row more: the blocks of each candidate with those before them
+pub row_fronts : (old new : List Row) (row : Row) (flags : ℕ) (candidates : List Candidate) → new ≡ old ++ row ∷ [] → row.links.items ≡ map (link_of flags) candidates
+    → (place : ℕ) → blocks_along (reverse new) place ≡ fronts (blocks_along (reverse old)) flags candidates place
+row_fronts old new row flags candidates e is place =
     let front = blocks_along (reverse old) in
     along_row new old row place e
     ∙ ap (λ (links : List Link). with_link front (slice_get links place)) is
-    ∙ ap (λ (link : Option Link). with_link front link) (slice_get-map (link_of flags) ways place)
-    ∙ with_linked front flags (slice_get ways place)
+    ∙ ap (λ (link : Option Link). with_link front link) (slice_get-map (link_of flags) candidates place)
+    ∙ with_linked front flags (slice_get candidates place)

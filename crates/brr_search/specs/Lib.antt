@@ -1,11 +1,11 @@
--- What a search through several ways finds.
--- Ways: a way through the samples, one digit further on, and the ways that stay.
--- Beam: the ways through a block, and through all blocks.
--- Links: the blocks of ways, each linked to the way that it goes on from.
+-- What a search through several candidates finds.
+-- Candidates: a candidate through the samples, one digit further on, and the candidates that stay.
+-- Beam: the candidates through a block, and through all blocks.
+-- Links: the blocks of candidates, each linked to the candidate that it goes on from.
 -- Options: how a sound is encoded.
 -- Found: the encoding that is found, and what it costs.
 -- Headers: the headers of its blocks.
-pub mod Ways
+pub mod Candidates
 pub mod Beam
 pub mod Links
 pub mod Options

@@ -1,19 +1,19 @@
 -- How a sound is encoded.
 use Rattle.std.specs.Prelude.{◌≤◌, ℕ, ◌/◌, Bool, false, ◌||◌, nat_le, Option, None, Some, is_some, unwrap_or, IfSome}
 use Rattle.brr_search.specs.declared.options.EncodeOptions.{EncodeOptions}
-use Rattle.brr_search.specs.declared.options.TheConstants.{MOST_WAYS}
+use Rattle.brr_search.specs.declared.options.TheConstants.{MAX_CANDIDATES}
 
--- the most ways that are kept open: 64
-abbrev pub most_ways : ℕ
-most_ways = MOST_WAYS
+-- the most candidates that are kept open: 64
+abbrev pub max_candidates : ℕ
+max_candidates = MAX_CANDIDATES
 
--- as many ways as may be kept open
+-- as many candidates as may be kept open
 abbrev pub AreInRange : EncodeOptions → Type 0
-AreInRange options = IfSome options.ways (λ ways. ways ≤ most_ways)
+AreInRange options = IfSome options.candidates (λ candidates. candidates ≤ max_candidates)
 
--- one way is kept open where the words say no more
-abbrev pub ways_of : EncodeOptions → ℕ
-ways_of options = unwrap_or options.ways 1
+-- one candidate is kept open where the words say no more
+abbrev pub candidates_of : EncodeOptions → ℕ
+candidates_of options = unwrap_or options.candidates 1
 
 -- a sound loops where the words say so, or where they say at which sample
 abbrev pub is_looped : EncodeOptions → Bool

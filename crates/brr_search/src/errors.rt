@@ -1,8 +1,8 @@
 // What blocks cost, read off their decoding.
 ghost use Rattle.std.specs.Prelude.{◌≡◌, ◌*◌, ◌/◌, ◌<◌, ◌≤◌, ◌^◌, All, length, slice_index, IfOk};
 ghost use Rattle.brr_encode.specs.Greedy.{squares};
-ghost use Rattle.brr_encode.specs.Report.{worst, reports_of, most_squares, IsWithin};
-ghost use Rattle.brr_encode.specs.Encoding.{most_blocks};
+ghost use Rattle.brr_encode.specs.Report.{worst, reports_of, max_squares, IsWithin};
+ghost use Rattle.brr_encode.specs.Encoding.{max_blocks};
 ghost use Rattle.brr_search.specs.Found.{sum_of_squares};
 
 use crate::OutOfMemory;
@@ -58,7 +58,7 @@ pub fn reports_of(
 /// The sum of the squares of all blocks.
 pub fn sum_of_squares(reports: &[BlockReport]) -> u64
     requires within { All IsWithin reports.now }
-    requires few { length reports.now ≤ most_blocks }
+    requires few { length reports.now ≤ max_blocks }
     ensures { result ≡ sum_of_squares reports.now }
 {
     let mut sum = 0;

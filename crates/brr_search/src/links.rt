@@ -1,46 +1,46 @@
-// The blocks of ways, each linked to the way that it goes on from.
+// The blocks of candidates, each linked to the candidate that it goes on from.
 ghost use Rattle.std.specs.Prelude.{◌≡◌, ◌≤◌, ◌<◌, ◌++◌, All, [], map, reverse, slice_get, vec_len, MatchOption, IfSome, IfOk};
 ghost use Rattle.brr_search.specs.Links.{TakesFlags, link_of, blocks_along};
 
 use crate::OutOfMemory;
-use crate::way::Way;
+use crate::candidate::Candidate;
 use std::alloc::Global;
 
-/// The block of a way, and the place of the way that it goes on from, among those that stayed after the block before.
+/// The block of a candidate, and the place of the candidate that it goes on from, among those that stayed after the block before.
 #[derive(Clone, Copy)]
 pub struct Link {
     pub start: u8,
     pub block: [u8; 9],
 }
 
-/// The links of the ways that stayed after a block.
+/// The links of the candidates that stayed after a block.
 #[derive(Drop)]
 pub struct Row {
     pub links: Vec<Link>,
 }
 
-/// The link of a way, whose header takes end and loop bits.
-fn link_of(way: &Way, flags: u8) -> Link
-    requires room { TakesFlags way.now }
+/// The link of a candidate, whose header takes end and loop bits.
+fn link_of(candidate: &Candidate, flags: u8) -> Link
+    requires room { TakesFlags candidate.now }
     requires flags { flags ≤ 3 }
-    ensures { result ≡ link_of flags way.now }
+    ensures { result ≡ link_of flags candidate.now }
 {
-    let [a, b, c, d, e, f, g, h] = way.digits.to_be_bytes();
+    let [a, b, c, d, e, f, g, h] = candidate.digits.to_be_bytes();
     Link {
-        start: way.start,
-        block: [way.header + flags, a, b, c, d, e, f, g, h],
+        start: candidate.start,
+        block: [candidate.header + flags, a, b, c, d, e, f, g, h],
     }
 }
 
-/// The links of ways.
-pub fn row_of(alloc: Global, ways: &[Way], flags: u8) -> Result<Row, OutOfMemory>
-    requires room { All TakesFlags ways.now }
+/// The links of candidates.
+pub fn row_of(alloc: Global, candidates: &[Candidate], flags: u8) -> Result<Row, OutOfMemory>
+    requires room { All TakesFlags candidates.now }
     requires flags { flags ≤ 3 }
-    ensures { IfOk result (λ row. row.links.items ≡ map (link_of flags) ways.now) }
+    ensures { IfOk result (λ row. row.links.items ≡ map (link_of flags) candidates.now) }
 {
-    let mut links = Vec::with_capacity(alloc, ways.len())?;
-    'ways: for way in ways {
-        links.push(link_of(way, flags))?;
+    let mut links = Vec::with_capacity(alloc, candidates.len())?;
+    'candidates: for candidate in candidates {
+        links.push(link_of(candidate, flags))?;
     }
     Ok(Row { links })
 }
@@ -67,7 +67,7 @@ fn take_link(rows: &mut Vec<Row>, place: usize) -> Option<Link>
     }
 }
 
-/// The blocks of the first way, with those before them.
+/// The blocks of the first candidate, with those before them.
 pub fn trace(alloc: Global, mut rows: Vec<Row>) -> Result<Vec<u8>, OutOfMemory>
     ensures { IfOk result (λ blocks. blocks.items ≡ blocks_along (reverse rows.items) 0) }
 {

@@ -1,30 +1,30 @@
 // How a sound is encoded.
 ghost use Rattle.std.specs.Prelude.{◌≡◌, ◌≤◌};
-ghost use Rattle.brr_search.specs.Options.{AreInRange, most_ways, ways_of, loop_block_of, is_looped, is_past};
+ghost use Rattle.brr_search.specs.Options.{AreInRange, max_candidates, candidates_of, loop_block_of, is_looped, is_past};
 
-/// The most ways that are kept open.
-pub const MOST_WAYS: u8 = 64;
+/// The most candidates that are kept open.
+pub const MAX_CANDIDATES: u8 = 64;
 
 /// How a sound is encoded.
 #[derive(Clone, Copy)]
 pub struct EncodeOptions {
     /// Whether the sound loops.
     pub looped: bool,
-    /// How many ways are kept open, from 1 on; one, where it isn't said.
-    pub ways: Option<u8>,
+    /// How many candidates are kept open, from 1 on; one, where it isn't said.
+    pub candidates: Option<u8>,
     /// The sample from which the loop goes on, a multiple of 16; it loops where this is said, and from the first sample where it isn't.
     pub loop_at: Option<u32>,
 }
 
 impl EncodeOptions {
-    /// How many ways are kept open.
-    pub fn ways(self) -> u8
+    /// How many candidates are kept open.
+    pub fn candidates(self) -> u8
         requires { AreInRange self }
-        ensures ways { result ≡ ways_of self }
-        ensures bound { result ≤ most_ways }
+        ensures candidates { result ≡ candidates_of self }
+        ensures bound { result ≤ max_candidates }
     {
-        match self.ways {
-            Some(ways) => ways,
+        match self.candidates {
+            Some(candidates) => candidates,
             None => 1,
         }
     }

@@ -2,7 +2,7 @@
 use Rattle.std.specs.Prelude.{◌≡◌, ℕ, ◌+◌, ◌<◌, List, [], ◌∷◌, Bool, true, false, not, ◌&&◌, ◌==◌, nat_le}
 use Rattle.trace_form.specs.declared.record.Record.{Record}
 use Rattle.trace_form.specs.declared.record.Record.TheVariants.{Reg, Port, Voice}
-use Rattle.chip_form.specs.Limits.{most_samples_of_batch}
+use Rattle.chip_form.specs.Limits.{max_samples_of_batch}
 use Rattle.chip_form.specs.ReachLaws.{WritesInside, ReadsInside, ReachStays, RegistersStay}
 use Rattle.chip_form.specs.ChipMeaning.{ChipMeaning}
 
@@ -30,4 +30,4 @@ pub record IsLawfulChip {S : Type 0} (chip : ChipMeaning S) : Type 0 where
   -- nor does it change the reach
   pub reach_stays : ReachStays chip.reach (λ s memory. chip.is_valid s && not (chip.reach s memory).entangled)
   -- the samples change no register but those of their results
-  pub registers_stay : RegistersStay chip.one_sample chip.register_read chip.is_result (λ n s. nat_le n most_samples_of_batch && chip.is_valid s)
+  pub registers_stay : RegistersStay chip.one_sample chip.register_read chip.is_result (λ n s. nat_le n max_samples_of_batch && chip.is_valid s)

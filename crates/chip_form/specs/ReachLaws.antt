@@ -4,13 +4,13 @@ use Rattle.std.specs.FinSet as set
 use Rattle.aram_core.specs.Memory.{byte_at, with_byte}
 use Rattle.aram_core.specs.Pages.{page_of}
 use Rattle.chip_form.specs.declared.pages.ReachPages.{ReachPages}
-use Rattle.chip_form.specs.Limits.{most_samples_of_batch}
+use Rattle.chip_form.specs.Limits.{max_samples_of_batch}
 use Rattle.chip_form.specs.Samples.{SampleResult, samples}
 
 -- the samples of a batch change memory on write pages alone
 abbrev pub WritesInside : {S : Type 0} → (ℕ → S → List ℕ → SampleResult S) → (S → List ℕ → ReachPages) → (S → Bool) → Type 0
 WritesInside {S = S} sample reach is_valid =
-    (n k : ℕ) (s : S) (memory : List ℕ) (at : ℕ) → n ≤ most_samples_of_batch → is_valid s ≡ true
+    (n k : ℕ) (s : S) (memory : List ℕ) (at : ℕ) → n ≤ max_samples_of_batch → is_valid s ≡ true
     → set.contains (reach s memory).write_pages (page_of at) ≡ false
     → byte_at (samples sample n k s memory).memory at ≡ byte_at memory at
 
@@ -18,7 +18,7 @@ WritesInside {S = S} sample reach is_valid =
 -- and the memory after them in that byte alone.
 abbrev pub ReadsInside : {S : Type 0} → (ℕ → S → List ℕ → SampleResult S) → (S → List ℕ → ReachPages) → (S → Bool) → Type 0
 ReadsInside {S = S} sample reach is_valid =
-    (n k : ℕ) (s : S) (memory : List ℕ) (at value : ℕ) → n ≤ most_samples_of_batch → is_valid s ≡ true
+    (n k : ℕ) (s : S) (memory : List ℕ) (at value : ℕ) → n ≤ max_samples_of_batch → is_valid s ≡ true
     → (reach s memory).entangled ≡ false
     → set.contains (reach s memory).read_pages (page_of at) ≡ false
     → samples sample n k s (with_byte memory at value)

@@ -7,7 +7,7 @@ ghost use Rattle.chip_form.specs.ChipSaving.{ChipSaving};
 ghost use Rattle.chip_form.specs.ChipLaws.{IsLawfulChip};
 ghost use Rattle.chip_form.specs.SavingLaws.{IsLawfulSaving};
 ghost use Rattle.trace_form.specs.Rooms.{frame_room, record_room};
-ghost use Rattle.chip_form.specs.Limits.{most_samples_of_batch, most_samples_of_chip};
+ghost use Rattle.chip_form.specs.Limits.{max_samples_of_batch, max_samples_of_chip};
 
 use aram_core::Aram;
 use trace_form::{Frames, Records};
@@ -64,10 +64,10 @@ pub trait Chip: Drop {
         frames: &mut Frames,
         records: &mut Records,
     )
-        requires few { n ≤ most_samples_of_batch }
+        requires few { n ≤ max_samples_of_batch }
         requires frame_room { length frames.old + n ≤ frame_room }
         requires record_room { length records.old + 8 * n ≤ record_room }
-        requires number { sample self.old + n ≤ most_samples_of_chip }
+        requires number { sample self.old + n ≤ max_samples_of_chip }
         ensures made { let made = samples meaning.one_sample n (sample self.old) (state self.old) memory.old in
             AddsSamples mask made (state self.new) memory.new frames.old frames.new records.old records.new }
         ensures sample { sample self.new ≡ sample self.old + n }

@@ -4,27 +4,27 @@ use Rattle.spc700_asm.specs.Faults.{LineRefusal}
 use Rattle.spc700_asm.specs.Assembly.{assembly}
 use Rattle.spc700_asm.specs.declared.refusal.LineFault.{LineFault}
 use Rattle.spc700_asm.specs.declared.refusal.LineFault.TheVariants as source
-use Rattle.command_frame.specs.Answer.{Answer, done}
-use Rattle.command_frame.specs.declared.refusals.Refusal.{Refusal}
-use Rattle.command_frame.specs.declared.refusals.Refusal.TheVariants.{Input}
+use Rattle.command_runner.specs.Answer.{Answer, done}
+use Rattle.command_runner.specs.declared.refusals.Refusal.{Refusal}
+use Rattle.command_runner.specs.declared.refusals.Refusal.TheVariants.{Input}
 use Rattle.input_files.specs.Reading.{input_limit, bytes_in, answer_from, refused_by}
-use Rattle.exit_status.specs.declared.cause.LineFault as told
+use Rattle.exit_status.specs.declared.cause.LineFault as known
 use Rattle.exit_status.specs.declared.cause.LineFault.TheVariants as complaint
 use Rattle.exit_status.specs.declared.cause.Cause.{Cause}
 use Rattle.exit_status.specs.declared.cause.Cause.TheVariants.{InputTooLong, AsmLine}
 
--- what is wrong with a line, as the complaint tells it
-abbrev pub fault_told : LineFault → told.LineFault
-fault_told source.Form = complaint.Form
-fault_told source.Number = complaint.Number
-fault_told source.Twice = complaint.Twice
-fault_told source.Long = complaint.Long
-fault_told source.Name = complaint.Name
-fault_told source.Far = complaint.Far
+-- what is wrong with a line, as the complaint says it
+abbrev pub fault_text : LineFault → known.LineFault
+fault_text source.Form = complaint.Form
+fault_text source.Number = complaint.Number
+fault_text source.Twice = complaint.Twice
+fault_text source.Long = complaint.Long
+fault_text source.Name = complaint.Name
+fault_text source.Far = complaint.Far
 
 -- the refusal of a source for one of its lines
 abbrev pub line_refusal : LineRefusal → Refusal Cause
-line_refusal refusal = Input (AsmLine refusal.number (fault_told refusal.fault))
+line_refusal refusal = Input (AsmLine refusal.number (fault_text refusal.fault))
 
 abbrev pub asm_report : (code : List ℕ) → List ℕ
 asm_report code = codes "bytes " ++ decimal (length code) ++ codes "\n"

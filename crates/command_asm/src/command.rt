@@ -2,14 +2,14 @@
 ghost use Rattle.std.specs.Prelude.{◌≡◌, ◌≤◌, length, IfOk, [], ◌∷◌};
 ghost use Rattle.snd_host.specs.Host.{HostState};
 ghost use Rattle.input_files.specs.Reading.{input_limit, input_up_to};
-ghost use Rattle.command_frame.specs.NamedInputs.{Held, first};
-ghost use Rattle.command_frame.specs.Conduct.{Plans, Prepares, Attempts};
-ghost use Rattle.command_frame.specs.Delivery.{CanDeliver};
-ghost use Rattle.command_frame.specs.Plan.{plan_makes};
-ghost use Rattle.command_asm.specs.Asm.{fault_told, asm_report, source_answer, asm_answer};
-ghost use Rattle.spc700_asm.specs.Assembly.{most_source};
+ghost use Rattle.command_runner.specs.NamedInputs.{Held, first};
+ghost use Rattle.command_runner.specs.Conduct.{Plans, Prepares, Attempts};
+ghost use Rattle.command_runner.specs.Delivery.{CanDeliver};
+ghost use Rattle.command_runner.specs.Plan.{plan_makes};
+ghost use Rattle.command_asm.specs.Asm.{fault_text, asm_report, source_answer, asm_answer};
+ghost use Rattle.spc700_asm.specs.Assembly.{max_source};
 
-use command_frame::{OutOfMemory, Plan, PlannedOutput, Refusal, carry_out};
+use command_runner::{OutOfMemory, Plan, PlannedOutput, Refusal, carry_out};
 use exit_status::Cause;
 use input_files::{INPUT_LIMIT, read_input};
 use report_text::put_named;
@@ -17,9 +17,9 @@ use snd_host::Host;
 use spc700_asm::{AsmRefusal, LineFault, assemble};
 use std::alloc::Global;
 
-/// What is wrong with a line, as the complaint tells it.
-fn fault_told(fault: LineFault) -> exit_status::LineFault
-    ensures { result ≡ fault_told fault }
+/// What is wrong with a line, as the complaint says it.
+fn fault_text(fault: LineFault) -> exit_status::LineFault
+    ensures { result ≡ fault_text fault }
 {
     match fault {
         LineFault::Form => exit_status::LineFault::Form,
@@ -31,7 +31,7 @@ fn fault_told(fault: LineFault) -> exit_status::LineFault
     }
 }
 
-/// The line that tells how much code was made.
+/// The line that says how much code was made.
 fn report(alloc: Global, code: &[u8]) -> Result<Vec<u8>, OutOfMemory>
     ensures { IfOk result (λ report. report.items ≡ asm_report code.now) }
 {
@@ -48,7 +48,7 @@ fn plan<'a>(
     origin: u16,
     output: &'a str,
 ) -> Result<Plan<'a>, Refusal<Cause>>
-    requires { length source.now ≤ most_source }
+    requires { length source.now ≤ max_source }
     ensures { Plans plan_makes (source_answer origin output.now source.now) result }
 {
     let code = match assemble(alloc, source, origin) {
@@ -56,7 +56,7 @@ fn plan<'a>(
         Err(AsmRefusal::Line { number, fault }) => {
             return Err(Refusal::Input(Cause::AsmLine {
                 line: number as usize,
-                fault: fault_told(fault),
+                fault: fault_text(fault),
             }));
         }
         Err(AsmRefusal::OutOfMemory) => return Err(Refusal::OutOfMemory),

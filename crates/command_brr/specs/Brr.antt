@@ -4,9 +4,9 @@ use Rattle.brr_decode.specs.Stream.{decoded_stream}
 use Rattle.brr_decode.specs.declared.stream.BrrRefusal.{BrrRefusal}
 use Rattle.brr_decode.specs.declared.stream.BrrRefusal.TheVariants as brr
 use Rattle.wav_form.specs.Wave.{mono_wave}
-use Rattle.command_frame.specs.Answer.{Answer, done}
-use Rattle.command_frame.specs.declared.refusals.Refusal.{Refusal}
-use Rattle.command_frame.specs.declared.refusals.Refusal.TheVariants.{Input, OutOfMemory}
+use Rattle.command_runner.specs.Answer.{Answer, done}
+use Rattle.command_runner.specs.declared.refusals.Refusal.{Refusal}
+use Rattle.command_runner.specs.declared.refusals.Refusal.TheVariants.{Input, OutOfMemory}
 use Rattle.input_files.specs.Reading.{input_limit, bytes_in, answer_from, refused_by}
 use Rattle.exit_status.specs.declared.cause.Cause.{Cause}
 use Rattle.exit_status.specs.declared.cause.Cause.TheVariants.{InputTooLong, BrrLength}

@@ -1,18 +1,18 @@
 // The command `brr`: blocks of BRR to a sound file of one channel.
 ghost use Rattle.std.specs.Prelude.{◌≡◌, ◌≤◌, ◌++◌, length, codes, decimal, IfOk, [], ◌∷◌};
-ghost use Rattle.num_fix.specs.Limits.{most_frames};
+ghost use Rattle.num_fix.specs.Limits.{max_frames};
 ghost use Rattle.wav_form.specs.Wave.{mono_wave};
 ghost use Rattle.snd_host.specs.Host.{HostState};
 ghost use Rattle.input_files.specs.Reading.{input_limit, input_up_to};
-ghost use Rattle.command_frame.specs.NamedInputs.{Held, first};
-ghost use Rattle.command_frame.specs.Conduct.{Plans, Prepares, Attempts};
-ghost use Rattle.command_frame.specs.Delivery.{CanDeliver};
-ghost use Rattle.command_frame.specs.Plan.{plan_makes};
+ghost use Rattle.command_runner.specs.NamedInputs.{Held, first};
+ghost use Rattle.command_runner.specs.Conduct.{Plans, Prepares, Attempts};
+ghost use Rattle.command_runner.specs.Delivery.{CanDeliver};
+ghost use Rattle.command_runner.specs.Plan.{plan_makes};
 ghost use Rattle.command_brr.specs.Brr.{decoding_answer, brr_answer};
 
 use brr_decode::{BrrRefusal, decode_stream};
 use byteorder::{ByteOrder, LittleEndian};
-use command_frame::{OutOfMemory, Plan, PlannedOutput, Refusal, carry_out};
+use command_runner::{OutOfMemory, Plan, PlannedOutput, Refusal, carry_out};
 use exit_status::Cause;
 use input_files::{INPUT_LIMIT, read_input};
 use report_text::put_named;
@@ -22,7 +22,7 @@ use wav_form::{HEADER_SIZE, header};
 
 /// The bytes of a sound file of one channel.
 fn wave(alloc: Global, samples: &[i16]) -> Result<Vec<u8>, OutOfMemory>
-    requires { length samples.now ≤ most_frames }
+    requires { length samples.now ≤ max_frames }
     ensures { IfOk result (λ wave. wave.items ≡ mono_wave samples.now) }
 {
     let mut wave = Vec::with_capacity(alloc, HEADER_SIZE + 2 * samples.len())?;
@@ -35,7 +35,7 @@ fn wave(alloc: Global, samples: &[i16]) -> Result<Vec<u8>, OutOfMemory>
     Ok(wave)
 }
 
-/// The line that tells what was decoded.
+/// The line that says what was decoded.
 fn report(alloc: Global, blocks: usize, samples: usize) -> Result<Vec<u8>, OutOfMemory>
     ensures { IfOk result (λ report. report.items ≡
         codes "blocks " ++ decimal blocks ++ codes " samples " ++ decimal samples ++ codes "\n") }

@@ -7,7 +7,7 @@ use Rattle.num_fix.specs.declared.Frame.{Frame}
 use Rattle.lock_step.specs.declared.counts.Counts.{Counts}
 use Rattle.gauss_table.specs.StraightTable.{straight_table}
 use Rattle.demo_gen.specs.Demo.{demo_bytes}
-use Rattle.command_frame.specs.Answer.{Answer, done}
+use Rattle.command_runner.specs.Answer.{Answer, done}
 use Rattle.render_files.specs.RenderReport.{batch_line}
 use Rattle.tune_opening.specs.Tune.{tune_frames, tune_counts}
 use Rattle.exit_status.specs.declared.cause.Cause.{Cause}
@@ -17,7 +17,7 @@ use Rattle.command_check.specs.declared.sums.Sums.{Sums}
 abbrev pub checked_samples : ℕ
 checked_samples = 320000
 
--- The mix with one frame more tells the order of the frames too: a sum over whole numbers, modulo 2 ^ 32.
+-- The mix with one frame more shows the order of the frames too: a sum over whole numbers, modulo 2 ^ 32.
 abbrev pub next_mix : (mix : ℕ) → Frame → ℕ
 next_mix mix frame = unsigned_abs (int_rem_euclid (pos (5 * mix) +ℤ frame.left +ℤ pos 3 *ℤ frame.right) (pos (2 ^ 32)))
 

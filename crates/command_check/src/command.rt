@@ -3,22 +3,22 @@ ghost use Rattle.std.specs.Prelude.{◌≡◌, ◌≤◌, IfOk, length, []};
 ghost use Rattle.dsp_core.specs.DspChip.{dsp_chip};
 ghost use Rattle.render_core.specs.RenderState.{frames_to_come, counts_to_come};
 ghost use Rattle.snd_host.specs.Host.{HostState};
-ghost use Rattle.command_frame.specs.NamedInputs.{Held};
-ghost use Rattle.command_frame.specs.Answer.{done};
-ghost use Rattle.command_frame.specs.Conduct.{Plans, Attempts};
-ghost use Rattle.command_frame.specs.Delivery.{CanDeliver};
-ghost use Rattle.command_frame.specs.Plan.{plan_makes};
+ghost use Rattle.command_runner.specs.NamedInputs.{Held};
+ghost use Rattle.command_runner.specs.Answer.{done};
+ghost use Rattle.command_runner.specs.Conduct.{Plans, Attempts};
+ghost use Rattle.command_runner.specs.Delivery.{CanDeliver};
+ghost use Rattle.command_runner.specs.Plan.{plan_makes};
 ghost use Rattle.command_check.specs.Check.{checked_samples, sums_of, demo_frames, demo_counts, check_report, check_answer};
 
 use crate::sums::{Sums, sums_with_all};
-use command_frame::{OutOfMemory, Plan, Refusal, carry_out};
+use command_runner::{OutOfMemory, Plan, Refusal, carry_out};
 use dsp_core::Dsp;
 use exit_status::Cause;
 use gauss_table::GaussTable;
 use lock_step::Counts;
 use render_core::Render;
 use render_files::put_batches;
-use report_text::{ByteRoom, put_named, put_signed};
+use report_text::{FixedBuffer, put_named, put_signed};
 use snd_host::Host;
 use std::alloc::Global;
 use tune_opening::open_tune;
@@ -58,7 +58,7 @@ fn report(alloc: Global, sums: Sums, counts: Counts) -> Result<Vec<u8>, OutOfMem
     put_signed(&mut report, b"\nright ", sums.right)?;
     put_named(&mut report, b"\nmix ", u64::from(sums.mix))?;
     report.extend_from_slice(b"\n")?;
-    let mut batches = ByteRoom::new(alloc)?;
+    let mut batches = FixedBuffer::new(alloc)?;
     put_batches(&mut batches, counts);
     report.extend_from_slice(batches.as_slice())?;
     Ok(report)

@@ -4,9 +4,9 @@ use Rattle.wav_form.specs.Wave.{stereo_wave}
 use Rattle.cut_form.specs.declared.cut.Cut.{Cut}
 use Rattle.cut_form.specs.CutBook.{cut_book}
 use Rattle.cut_form.specs.Slices.{cut_frames}
-use Rattle.command_frame.specs.Answer.{Answer, done}
-use Rattle.command_frame.specs.NamedInputs.{NamedInput, Held, first, second, third}
-use Rattle.command_frame.specs.Stream.{pair}
+use Rattle.command_runner.specs.Answer.{Answer, done}
+use Rattle.command_runner.specs.NamedInputs.{NamedInput, Held, first, second, third}
+use Rattle.command_runner.specs.Stream.{pair}
 use Rattle.exit_status.specs.declared.cause.Cause.{Cause}
 use Rattle.input_files.specs.Reading.{answer_from, input_limit, input_up_to}
 use Rattle.input_files.specs.Inputs.{spc_input, table_input, file_in, table_in}

@@ -2,8 +2,8 @@
 use Rattle.std.specs.Prelude.{ℕ, List, Option, Result}
 use Rattle.cut_form.specs.declared.cut.Cut.{Cut}
 use Rattle.cut_form.specs.CutList.{cut_list}
-use Rattle.command_frame.specs.declared.refusals.Refusal.{Refusal}
-use Rattle.command_frame.specs.declared.refusals.Refusal.TheVariants.{Input}
+use Rattle.command_runner.specs.declared.refusals.Refusal.{Refusal}
+use Rattle.command_runner.specs.declared.refusals.Refusal.TheVariants.{Input}
 use Rattle.exit_status.specs.declared.cause.Cause.{Cause}
 use Rattle.exit_status.specs.declared.cause.Cause.TheVariants.{InputTooLong, CutList}
 use Rattle.input_files.specs.Reading.{input_limit, bytes_in, value_from, refused_by}

@@ -4,7 +4,7 @@ ghost use Rattle.snd_host.specs.Host.{HostState};
 ghost use Rattle.input_files.specs.Reading.{Accepts, Reads, input_limit};
 ghost use Rattle.command_cuts.specs.Lists.{cuts_of, cuts_in};
 
-use command_frame::Refusal;
+use command_runner::Refusal;
 use cut_text::{CutList, TextRefusal, read_cuts};
 use exit_status::Cause;
 use input_files::{INPUT_LIMIT, read_input};

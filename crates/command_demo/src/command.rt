@@ -1,14 +1,14 @@
 // The command `demo`: a demo file.
 ghost use Rattle.std.specs.Prelude.{◌≡◌, IfOk, []};
-ghost use Rattle.command_frame.specs.NamedInputs.{Held};
-ghost use Rattle.command_frame.specs.Answer.{done};
+ghost use Rattle.command_runner.specs.NamedInputs.{Held};
+ghost use Rattle.command_runner.specs.Answer.{done};
 ghost use Rattle.snd_host.specs.Host.{HostState};
-ghost use Rattle.command_frame.specs.Conduct.{Plans, Attempts};
-ghost use Rattle.command_frame.specs.Delivery.{CanDeliver};
-ghost use Rattle.command_frame.specs.Plan.{plan_makes};
+ghost use Rattle.command_runner.specs.Conduct.{Plans, Attempts};
+ghost use Rattle.command_runner.specs.Delivery.{CanDeliver};
+ghost use Rattle.command_runner.specs.Plan.{plan_makes};
 ghost use Rattle.command_demo.specs.Demo.{demo_answer};
 
-use command_frame::{OutOfMemory, Plan, PlannedOutput, Refusal, carry_out};
+use command_runner::{OutOfMemory, Plan, PlannedOutput, Refusal, carry_out};
 use exit_status::Cause;
 use snd_host::Host;
 use spc_form::write_spc;

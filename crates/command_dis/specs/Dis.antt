@@ -3,8 +3,8 @@ use Rattle.std.specs.Prelude.{ℕ, ◌+◌, List, [], ◌∷◌, ◌++◌, lengt
 use Rattle.aram_core.specs.declared.aram.TheConstants.{MEMORY_SIZE}
 use Rattle.spc700_asm.specs.Characters.{is_line_feed}
 use Rattle.spc700_asm.specs.Listing.{listing}
-use Rattle.command_frame.specs.Answer.{Answer, done, refused}
-use Rattle.command_frame.specs.declared.refusals.Refusal.TheVariants.{Input}
+use Rattle.command_runner.specs.Answer.{Answer, done, refused}
+use Rattle.command_runner.specs.declared.refusals.Refusal.TheVariants.{Input}
 use Rattle.input_files.specs.Reading.{input_limit, bytes_in, answer_from}
 use Rattle.exit_status.specs.declared.cause.Cause.{Cause}
 use Rattle.exit_status.specs.declared.cause.Cause.TheVariants.{InputTooLong, CodeLength}

@@ -2,14 +2,14 @@
 ghost use Rattle.std.specs.Prelude.{◌≡◌, IfOk, [], ◌∷◌};
 ghost use Rattle.snd_host.specs.Host.{HostState};
 ghost use Rattle.input_files.specs.Reading.{input_limit, input_up_to};
-ghost use Rattle.command_frame.specs.NamedInputs.{Held, first};
-ghost use Rattle.command_frame.specs.Conduct.{Plans, Prepares, Attempts};
-ghost use Rattle.command_frame.specs.Delivery.{CanDeliver};
-ghost use Rattle.command_frame.specs.Plan.{plan_makes};
+ghost use Rattle.command_runner.specs.NamedInputs.{Held, first};
+ghost use Rattle.command_runner.specs.Conduct.{Plans, Prepares, Attempts};
+ghost use Rattle.command_runner.specs.Delivery.{CanDeliver};
+ghost use Rattle.command_runner.specs.Plan.{plan_makes};
 ghost use Rattle.command_dis.specs.Dis.{line_count, dis_report, code_answer, dis_answer};
 
 use aram_core::MEMORY_SIZE;
-use command_frame::{OutOfMemory, Plan, PlannedOutput, Refusal, carry_out};
+use command_runner::{OutOfMemory, Plan, PlannedOutput, Refusal, carry_out};
 use exit_status::Cause;
 use input_files::{INPUT_LIMIT, read_input};
 use report_text::put_named;
@@ -24,7 +24,7 @@ fn line_count(text: &[u8]) -> usize
     text.iter().filter(|byte| **byte == b'\n').count()
 }
 
-/// The line that tells how long the listing is.
+/// The line that says how long the listing is.
 fn report(alloc: Global, text: &[u8]) -> Result<Vec<u8>, OutOfMemory>
     ensures { IfOk result (λ report. report.items ≡ dis_report text.now) }
 {

@@ -7,13 +7,13 @@ use Rattle.brr_encode.specs.declared.encoder.EncodeRefusal.{EncodeRefusal}
 use Rattle.brr_encode.specs.declared.encoder.EncodeRefusal.TheVariants as encoder
 use Rattle.brr_encode.specs.declared.report.BlockReport.{BlockReport}
 use Rattle.brr_search.specs.Found.{found_samples}
-use Rattle.brr_search.specs.Options.{ways_of, is_looped, loop_block_of, is_past}
+use Rattle.brr_search.specs.Options.{candidates_of, is_looped, loop_block_of, is_past}
 use Rattle.brr_search.specs.declared.options.EncodeOptions.{EncodeOptions}
 use Rattle.wav_form.specs.Mono.{mono_samples}
 use Rattle.wav_form.specs.declared.refusal.WavRefusal.{WavRefusal}
-use Rattle.command_frame.specs.Answer.{Answer, done, refused}
-use Rattle.command_frame.specs.declared.refusals.Refusal.{Refusal}
-use Rattle.command_frame.specs.declared.refusals.Refusal.TheVariants.{Input, OutOfMemory}
+use Rattle.command_runner.specs.Answer.{Answer, done, refused}
+use Rattle.command_runner.specs.declared.refusals.Refusal.{Refusal}
+use Rattle.command_runner.specs.declared.refusals.Refusal.TheVariants.{Input, OutOfMemory}
 use Rattle.input_files.specs.Reading.{wave_limit, bytes_in, answer_from, refused_by}
 use Rattle.exit_status.specs.declared.cause.Cause.{Cause}
 use Rattle.exit_status.specs.declared.cause.Cause.TheVariants.{WavForm, EncodeSize, InputTooLong}
@@ -54,7 +54,7 @@ abbrev pub encoding_answer : (output : List ℕ) → EncodeOptions → (samples 
 encoding_answer output options samples =
     if is_past (length samples) options.loop_at then refused (Input (EncodeSize (length samples)))
     else answer_from
-    (refused_by (encode_refusal (length samples)) (found_samples (ways_of options) (loop_block_of options) samples (is_looped options)))
+    (refused_by (encode_refusal (length samples)) (found_samples (candidates_of options) (loop_block_of options) samples (is_looped options)))
     (blocks_answer output options samples)
 
 -- the same by what the bytes of the input are: samples, or no file of one channel

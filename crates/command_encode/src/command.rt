@@ -2,16 +2,16 @@
 ghost use Rattle.std.specs.Prelude.{◌≡◌, ◌++◌, OnOk, IfOk, [], ◌∷◌};
 ghost use Rattle.snd_host.specs.Host.{HostState};
 ghost use Rattle.input_files.specs.Reading.{wave_limit, input_up_to};
-ghost use Rattle.command_frame.specs.NamedInputs.{Held, first};
-ghost use Rattle.command_frame.specs.Conduct.{Plans, Prepares, Attempts};
-ghost use Rattle.command_frame.specs.Delivery.{CanDeliver};
-ghost use Rattle.command_frame.specs.Plan.{plan_makes};
+ghost use Rattle.command_runner.specs.NamedInputs.{Held, first};
+ghost use Rattle.command_runner.specs.Conduct.{Plans, Prepares, Attempts};
+ghost use Rattle.command_runner.specs.Delivery.{CanDeliver};
+ghost use Rattle.command_runner.specs.Plan.{plan_makes};
 ghost use Rattle.brr_search.specs.Options.{AreInRange};
 ghost use Rattle.command_encode.specs.Encode.{block_line, loop_line, encode_report, encoding_answer, wave_answer, encode_answer};
 
 use brr_encode::{BlockReport, EncodeRefusal};
 use brr_search::{EncodeOptions, find_encoding};
-use command_frame::{OutOfMemory, Plan, PlannedOutput, Refusal, carry_out};
+use command_runner::{OutOfMemory, Plan, PlannedOutput, Refusal, carry_out};
 use exit_status::Cause;
 use input_files::{WAVE_LIMIT, read_input};
 use report_text::{put_named, put_two_digits};
@@ -76,8 +76,12 @@ fn plan_samples<'a>(
     if options.is_past(count) {
         return Err(Refusal::Input(Cause::EncodeSize(count)));
     }
-    let (ways, loop_block, looped) = (options.ways(), options.loop_block(), options.is_looped());
-    let encoded = match find_encoding(alloc, ways, loop_block, samples, looped) {
+    let (candidates, loop_block, looped) = (
+        options.candidates(),
+        options.loop_block(),
+        options.is_looped(),
+    );
+    let encoded = match find_encoding(alloc, candidates, loop_block, samples, looped) {
         Ok(encoded) => encoded,
         Err(EncodeRefusal::Empty | EncodeRefusal::TooLong) => {
             return Err(Refusal::Input(Cause::EncodeSize(count)));
@@ -128,7 +132,7 @@ fn prepare<'a, H: Host>(
 }
 
 /// Encodes the sound file of one channel that the input holds to blocks, the output, and reports on each block. The options say whether
-/// the sound loops and from where, and how many ways are kept open. A loop that is to go on from a sample that isn't there is refused as
+/// the sound loops and from where, and how many candidates are kept open. A loop that is to go on from a sample that isn't there is refused as
 /// a sound is that has too few samples or too many.
 pub fn encode<H: Host>(
     alloc: Global,

@@ -1,6 +1,6 @@
 -- What `help` and `version` answer.
 use Rattle.std.specs.Prelude.{ℕ, List, [], ◌++◌, codes}
-use Rattle.command_frame.specs.Answer.{Answer, done}
+use Rattle.command_runner.specs.Answer.{Answer, done}
 use Rattle.exit_status.specs.declared.cause.Cause.{Cause}
 
 -- the commands with their words, a line each, and where the formats are described

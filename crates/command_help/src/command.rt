@@ -1,14 +1,14 @@
 // The commands `help` and `version`: texts that need no input.
 ghost use Rattle.std.specs.Prelude.{◌≡◌, []};
 ghost use Rattle.snd_host.specs.Host.{HostState};
-ghost use Rattle.command_frame.specs.NamedInputs.{Held};
-ghost use Rattle.command_frame.specs.Conduct.{Plans, Attempts};
-ghost use Rattle.command_frame.specs.Delivery.{CanDeliver};
-ghost use Rattle.command_frame.specs.Plan.{plan_makes};
+ghost use Rattle.command_runner.specs.NamedInputs.{Held};
+ghost use Rattle.command_runner.specs.Conduct.{Plans, Attempts};
+ghost use Rattle.command_runner.specs.Delivery.{CanDeliver};
+ghost use Rattle.command_runner.specs.Plan.{plan_makes};
 ghost use Rattle.command_help.specs.Help.{help_text, version_text, help_answer, version_answer};
-ghost use Rattle.command_frame.specs.Answer.{done};
+ghost use Rattle.command_runner.specs.Answer.{done};
 
-use command_frame::{Plan, Refusal, carry_out};
+use command_runner::{Plan, Refusal, carry_out};
 use exit_status::Cause;
 use snd_host::Host;
 use std::alloc::Global;

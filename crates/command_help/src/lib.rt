@@ -1,4 +1,4 @@
-//! The commands `help` and `version`: what the program tells of itself.
+//! The commands `help` and `version`: what the program says of itself.
 #![tactic(auto)]
 
 mod command;

@@ -1,7 +1,7 @@
 -- What `info` answers.
 use Rattle.std.specs.Prelude.{ℕ, ◌+◌, List, [], ◌∷◌, ◌++◌, length, Option, codes, decimal, if◌then◌else◌}
 use Rattle.std.specs.List.{flat_map}
-use Rattle.command_frame.specs.Answer.{Answer, done}
+use Rattle.command_runner.specs.Answer.{Answer, done}
 use Rattle.spc_form.specs.Layout.{minor_of, pc_of, a_of, x_of, y_of, psw_of, sp_of}
 use Rattle.spc_form.specs.Tags.{has_tags, text_of}
 use Rattle.spc_form.specs.declared.tags.Tag.{Tag}

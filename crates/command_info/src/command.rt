@@ -2,13 +2,13 @@
 ghost use Rattle.std.specs.Prelude.{◌≡◌, ◌++◌, OnOk, IfOk, length, codes, [], ◌∷◌};
 ghost use Rattle.snd_host.specs.Host.{HostState};
 ghost use Rattle.input_files.specs.Inputs.{spc_input};
-ghost use Rattle.command_frame.specs.NamedInputs.{Held, first};
-ghost use Rattle.command_frame.specs.Conduct.{Plans, Prepares, Attempts};
-ghost use Rattle.command_frame.specs.Delivery.{CanDeliver};
-ghost use Rattle.command_frame.specs.Plan.{plan_makes};
+ghost use Rattle.command_runner.specs.NamedInputs.{Held, first};
+ghost use Rattle.command_runner.specs.Conduct.{Plans, Prepares, Attempts};
+ghost use Rattle.command_runner.specs.Delivery.{CanDeliver};
+ghost use Rattle.command_runner.specs.Plan.{plan_makes};
 ghost use Rattle.command_info.specs.Info.{tag_name, tag_line, tag_lines, register_text, counter_text, data_text, status_text, register_line, info_report, fields_answer, info_answer};
 
-use command_frame::{OutOfMemory, Plan, Refusal, carry_out};
+use command_runner::{OutOfMemory, Plan, Refusal, carry_out};
 use exit_status::Cause;
 use input_files::{INPUT_LIMIT, accept_file, read_input};
 use report_text::{put_number, put_text, put_two_digits, put_word};

@@ -11,21 +11,21 @@ use Rattle.command_line.specs.SessionWords.{session_options_in, muted_in}
 -- a command with its names
 pub data Command : Type 0 where
   usage : Command
-  -- tells the commands
+  -- prints the commands
   help : Command
-  -- tells the program's name and number
+  -- prints the program's name and number
   version : Command
   -- decodes the blocks of the first name to the second
   brr : (input output : List ℕ) → Command
-  -- tells the fields of an SPC file
+  -- prints the fields of an SPC file
   info : (input : List ℕ) → Command
-  -- encodes the sound file of the first name to blocks under the second: with a loop or without, and along so many ways
+  -- encodes the sound file of the first name to blocks under the second: with a loop or without, and along so many candidates
   encode : (input output : List ℕ) → (options : EncodeOptions) → Command
   -- renders the SPC file of the first name over the table of the second to a sound file of the third, and maybe to a trace
   render : (file table wave : List ℕ) → (options : Options) → Command
   -- makes the demo file of a number under the name
   demo : (number : ℕ) → (output : List ℕ) → Command
-  -- tells sums over the frames of the demo file of a number
+  -- prints sums over the frames of the demo file of a number
   check : (number : ℕ) → Command
   -- assembles the source of the first name from an origin on to code under the second
   asm : (input : List ℕ) → (origin : ℕ) → (output : List ℕ) → Command

@@ -1,14 +1,14 @@
 -- What the words that were read mean.
 use Rattle.std.specs.Prelude.{◌≤◌}
-use Rattle.page_pool.specs.Pool.{most_pages}
+use Rattle.page_pool.specs.Pool.{max_pages}
 use Rattle.brr_search.specs.Options as encoding
 use Rattle.command_line.specs.Command as command
-use Rattle.cut_form.specs.Checkpoints.{fewest_pages}
+use Rattle.cut_form.specs.Checkpoints.{min_pages}
 use Rattle.render_options.specs.Options.{options_of, SamplesWithinHour}
 use Rattle.command_line.specs.declared.words.Command.{Command}
 use Rattle.command_line.specs.declared.words.Command.TheVariants.{Usage, Help, Version, Brr, Info, Encode, Render, Demo, Check, Asm, Dis, Rip, Cuts, Serve}
 
--- The numbers are in range: an hour of frames at most, as many ways as may be kept open, and pages that a pool may have.
+-- The numbers are in range: an hour of frames at most, as many candidates as may be kept open, and pages that a pool may have.
 abbrev pub AreInRange : Command → Type 0
 AreInRange Usage = Unit {0}
 AreInRange Help = Unit {0}
@@ -23,7 +23,7 @@ AreInRange (Asm input origin output) = Unit {0}
 AreInRange (Dis input origin output) = Unit {0}
 AreInRange (Rip file prefix range) = Unit {0}
 AreInRange (Cuts file table list wave muted) = Unit {0}
-AreInRange (Serve file table script wave options) = (fewest_pages ≤ options.pages) × (options.pages ≤ most_pages)
+AreInRange (Serve file table script wave options) = (min_pages ≤ options.pages) × (options.pages ≤ max_pages)
 
 abbrev pub meaning_of : Command → command.Command
 meaning_of Usage = command.usage

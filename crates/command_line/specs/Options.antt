@@ -5,9 +5,9 @@ use Rattle.std.specs.Str.{bytes_eq}
 use Rattle.hex.specs.Hex.{decode_sized}
 use Rattle.hex.specs.declared.error.FromHexError.{FromHexError}
 use Rattle.text_form.specs.Decimals.{decimal_value, is_number}
-use Rattle.num_fix.specs.Limits.{most_frames}
-use Rattle.page_pool.specs.Pool.{most_pages}
-use Rattle.cut_form.specs.Checkpoints.{fewest_pages}
+use Rattle.num_fix.specs.Limits.{max_frames}
+use Rattle.page_pool.specs.Pool.{max_pages}
+use Rattle.cut_form.specs.Checkpoints.{min_pages}
 use Rattle.cut_form.specs.CutBook.{slots_for_cuts}
 use Rattle.render_options.specs.Options.{Options}
 
@@ -20,16 +20,16 @@ is_name [] = false
 is_name (first ∷ word) = not (first == 45)
 
 -- the greatest number of a demo file
-abbrev pub greatest_number : ℕ
-greatest_number = 4294967295
+abbrev pub max_number : ℕ
+max_number = 4294967295
 
 -- the number of samples that a word says in 1 to 9 digits: an hour of frames at most
 abbrev pub count_in : List ℕ → Option ℕ
-count_in word = if is_number 9 word && nat_le (decimal_value word) most_frames then Some (decimal_value word) else None
+count_in word = if is_number 9 word && nat_le (decimal_value word) max_frames then Some (decimal_value word) else None
 
 -- the number of a demo file that a word says in 1 to 10 digits: below 2 ^ 32
 abbrev pub demo_number_in : List ℕ → Option ℕ
-demo_number_in word = if is_number 10 word && nat_le (decimal_value word) greatest_number then Some (decimal_value word) else None
+demo_number_in word = if is_number 10 word && nat_le (decimal_value word) max_number then Some (decimal_value word) else None
 
 -- the name that a word says
 abbrev pub name_in : List ℕ → Option (List ℕ)
@@ -69,7 +69,7 @@ usual_pages = slots_for_cuts
 -- the number of pages that a word says in 1 to 5 digits
 abbrev pub pages_in : List ℕ → Option ℕ
 pages_in word =
-    if is_number 5 word && (nat_le fewest_pages (decimal_value word) && nat_le (decimal_value word) most_pages) then Some (decimal_value word) else None
+    if is_number 5 word && (nat_le min_pages (decimal_value word) && nat_le (decimal_value word) max_pages) then Some (decimal_value word) else None
 
 -- what an option is set to, unless it was set before
 abbrev pub once : {T : Type 0} → (before value : Option T) → Option T

@@ -2,8 +2,8 @@
 use Rattle.std.specs.Prelude.{◌≤◌, ℕ, List, [], ◌∷◌, Option, Some, None, IfSome, codes, unwrap_or, if◌then◌else◌}
 use Rattle.std.specs.Option.{option_map}
 use Rattle.std.specs.Str.{bytes_eq}
-use Rattle.page_pool.specs.Pool.{most_pages}
-use Rattle.cut_form.specs.Checkpoints.{fewest_pages}
+use Rattle.page_pool.specs.Pool.{max_pages}
+use Rattle.cut_form.specs.Checkpoints.{min_pages}
 use Rattle.render_options.specs.declared.SessionOptions.{SessionOptions}
 use Rattle.command_line.specs.Options.{once, voices_in, pages_in, usual_pages, options_from}
 use Rattle.command_line.specs.declared.session_words.GivenOptions.{GivenOptions}
@@ -14,7 +14,7 @@ none_given = record { pages = None; muted = None }
 
 -- a number of pages that was given is one that a pool may have
 abbrev pub ArePagesInRange : GivenOptions → Type 0
-ArePagesInRange given = IfSome given.pages (λ pages. (fewest_pages ≤ pages) × (pages ≤ most_pages))
+ArePagesInRange given = IfSome given.pages (λ pages. (min_pages ≤ pages) × (pages ≤ max_pages))
 
 -- the options of `serve` with one more: it has this name and this value
 abbrev pub given_with : GivenOptions → (name value : List ℕ) → Option GivenOptions

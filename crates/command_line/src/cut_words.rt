@@ -1,8 +1,8 @@
 // The words after `cuts` and `serve`.
 ghost use Rattle.std.specs.Prelude.{◌≡◌, ◌≤◌, map, string_bytes, IfSome};
-ghost use Rattle.page_pool.specs.Pool.{most_pages};
+ghost use Rattle.page_pool.specs.Pool.{max_pages};
 ghost use Rattle.command_line.specs.Command.{cuts_with, cuts_command, serve_with, serve_command};
-ghost use Rattle.cut_form.specs.Checkpoints.{fewest_pages};
+ghost use Rattle.cut_form.specs.Checkpoints.{min_pages};
 ghost use Rattle.command_line.specs.Meaning.{meaning_of, AreInRange};
 
 use crate::options::is_name;
@@ -64,7 +64,7 @@ fn serve_with<'a>(
     wave: &'a str,
     options: Option<SessionOptions>,
 ) -> Command<'a>
-    requires { IfSome options (λ options. (fewest_pages ≤ options.pages) × (options.pages ≤ most_pages)) }
+    requires { IfSome options (λ options. (min_pages ≤ options.pages) × (options.pages ≤ max_pages)) }
     ensures meaning { meaning_of result ≡ serve_with file.now table.now script.now wave.now options }
     ensures in_range { AreInRange result }
 {

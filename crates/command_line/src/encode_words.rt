@@ -1,25 +1,25 @@
 // The options of `encode`.
 ghost use Rattle.std.specs.Prelude.{◌≡◌, ◌<◌, ◌≤◌, length, map, string_bytes, Some, None, IfSome};
-ghost use Rattle.brr_search.specs.Options.{AreInRange, most_ways};
-ghost use Rattle.command_line.specs.EncodeWords.{ways_in, loop_at_in, with_loop, encode_options_with, encode_options_from, encode_options_in};
+ghost use Rattle.brr_search.specs.Options.{AreInRange, max_candidates};
+ghost use Rattle.command_line.specs.EncodeWords.{candidates_in, loop_at_in, with_loop, encode_options_with, encode_options_from, encode_options_in};
 
-use brr_search::{EncodeOptions, MOST_WAYS};
+use brr_search::{EncodeOptions, MAX_CANDIDATES};
 use text_form::{decimal_value, is_number};
 
 /// The most samples of a sound that is encoded.
-const MOST_SAMPLES: u64 = brr_encode::MOST_SAMPLES as u64;
+const MAX_SAMPLES: u64 = brr_encode::MAX_SAMPLES as u64;
 
-/// The number of ways that a word says.
-fn ways_in(word: &[u8]) -> Option<u8>
-    ensures value { result ≡ ways_in word.now }
-    ensures in_range { IfSome result (λ ways. ways ≤ most_ways) }
+/// The number of candidates that a word says.
+fn candidates_in(word: &[u8]) -> Option<u8>
+    ensures value { result ≡ candidates_in word.now }
+    ensures in_range { IfSome result (λ candidates. candidates ≤ max_candidates) }
 {
     if !is_number(2, word) {
         return None;
     }
-    let ways = decimal_value(word);
-    if (1..=u64::from(MOST_WAYS)).contains(&ways) {
-        Some(ways as u8)
+    let candidates = decimal_value(word);
+    if (1..=u64::from(MAX_CANDIDATES)).contains(&candidates) {
+        Some(candidates as u8)
     } else {
         None
     }
@@ -33,7 +33,7 @@ fn loop_at_in(word: &[u8]) -> Option<u32>
         return None;
     }
     let sample = decimal_value(word);
-    if sample <= MOST_SAMPLES && sample % 16 == 0 {
+    if sample <= MAX_SAMPLES && sample % 16 == 0 {
         Some(sample as u32)
     } else {
         None
@@ -63,9 +63,9 @@ fn options_with(options: EncodeOptions, name: &str, value: &str) -> Option<Encod
     ensures in_range { IfSome result (λ options. AreInRange options) }
 {
     match name {
-        "--search" => match (options.ways, ways_in(value.as_bytes())) {
-            (None, Some(ways)) => Some(EncodeOptions {
-                ways: Some(ways),
+        "--search" => match (options.candidates, candidates_in(value.as_bytes())) {
+            (None, Some(candidates)) => Some(EncodeOptions {
+                candidates: Some(candidates),
                 ..options
             }),
             _ => None,
@@ -126,7 +126,7 @@ pub fn read_encode_options(words: &[String]) -> Option<EncodeOptions>
 {
     let mut options = EncodeOptions {
         looped: false,
-        ways: None,
+        candidates: None,
         loop_at: None,
     };
     let mut rest = words;

@@ -1,21 +1,21 @@
 // The options of `render`, and numbers, addresses and pages.
 ghost use Rattle.std.specs.Prelude.{◌≡◌, ◌≤◌, map, string_bytes, option_map, true, IfSome};
-ghost use Rattle.page_pool.specs.Pool.{most_pages};
-ghost use Rattle.cut_form.specs.Checkpoints.{fewest_pages};
+ghost use Rattle.page_pool.specs.Pool.{max_pages};
+ghost use Rattle.cut_form.specs.Checkpoints.{min_pages};
 ghost use Rattle.render_options.specs.Options.{options_of, SamplesWithinHour};
 ghost use Rattle.command_line.specs.Options.{is_name, count_in, demo_number_in, name_in, voices_in, origin_in, range_in, pages_in, options_with, options_in};
 
-use cut_form::{MOST_FRAMES, PAGE_COUNT};
+use cut_form::{MAX_FRAMES, PAGE_COUNT};
 use render_options::RenderOptions;
 use text_form::{decimal_value, is_number};
 
 /// The greatest number of a demo file.
-const GREATEST_NUMBER: u64 = 4294967295;
+const MAX_NUMBER: u64 = 4294967295;
 
 /// The fewest and the most pages for the checkpoints of a session.
-const FEWEST_PAGES: u64 = PAGE_COUNT as u64;
+const MIN_PAGES: u64 = PAGE_COUNT as u64;
 
-const MOST_PAGES: u64 = page_pool::MOST_PAGES as u64;
+const MAX_PAGES: u64 = page_pool::MAX_PAGES as u64;
 
 /// Whether a word may name a file.
 pub fn is_name(word: &str) -> bool
@@ -36,7 +36,7 @@ fn count_in(word: &[u8]) -> Option<u32>
         return None;
     }
     let count = decimal_value(word);
-    if count <= u64::from(MOST_FRAMES) {
+    if count <= u64::from(MAX_FRAMES) {
         Some(count as u32)
     } else {
         None
@@ -51,7 +51,7 @@ pub fn demo_number_in(word: &[u8]) -> Option<u32>
         return None;
     }
     let number = decimal_value(word);
-    if number <= GREATEST_NUMBER {
+    if number <= MAX_NUMBER {
         Some(number as u32)
     } else {
         None
@@ -61,13 +61,13 @@ pub fn demo_number_in(word: &[u8]) -> Option<u32>
 /// The number of pages that a word says.
 pub fn pages_in(word: &[u8]) -> Option<u32>
     ensures value { result ≡ pages_in word.now }
-    ensures in_range { IfSome result (λ pages. (fewest_pages ≤ pages) × (pages ≤ most_pages)) }
+    ensures in_range { IfSome result (λ pages. (min_pages ≤ pages) × (pages ≤ max_pages)) }
 {
     if !is_number(5, word) {
         return None;
     }
     let pages = decimal_value(word);
-    if (FEWEST_PAGES..=MOST_PAGES).contains(&pages) {
+    if (MIN_PAGES..=MAX_PAGES).contains(&pages) {
         Some(pages as u32)
     } else {
         None

@@ -6,9 +6,9 @@ use Rattle.lock_step.specs.declared.counts.Counts.{Counts}
 use Rattle.render_core.specs.Fade.{faded_frames}
 use Rattle.spc_form.specs.Tags.{length_of}
 use Rattle.spc_form.specs.declared.tags.Length.{Length}
-use Rattle.command_frame.specs.Answer.{Answer, done}
-use Rattle.command_frame.specs.NamedInputs.{NamedInput, Held, first, second}
-use Rattle.command_frame.specs.Stream.{pair}
+use Rattle.command_runner.specs.Answer.{Answer, done}
+use Rattle.command_runner.specs.NamedInputs.{NamedInput, Held, first, second}
+use Rattle.command_runner.specs.Stream.{pair}
 use Rattle.input_files.specs.Reading.{answer_from}
 use Rattle.input_files.specs.Inputs.{spc_input, table_input, file_in, table_in}
 use Rattle.render_options.specs.Options.{Options}

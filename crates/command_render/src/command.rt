@@ -2,21 +2,21 @@
 ghost use Rattle.std.specs.Prelude.{◌≡◌, ◌≤◌, ◌++◌, IfOk, is_some, unwrap_or, [], ◌∷◌};
 ghost use Rattle.wav_form.specs.Wave.{header_of};
 ghost use Rattle.dsp_core.specs.DspChip.{dsp_chip};
-ghost use Rattle.snd_host.specs.Host.{HostState, IfTold};
+ghost use Rattle.snd_host.specs.Host.{HostState, IfKnown};
 ghost use Rattle.input_files.specs.Inputs.{table_input};
-ghost use Rattle.command_frame.specs.NamedInputs.{Held, first, held_by};
-ghost use Rattle.command_frame.specs.Answer.{outputs_of};
-ghost use Rattle.command_frame.specs.Conduct.{Plans, Prepares, Attempts};
-ghost use Rattle.command_frame.specs.Delivery.{CanDeliver};
-ghost use Rattle.command_frame.specs.Making.{MadeAtOnce};
-ghost use Rattle.command_frame.specs.Plan.{stream_makes};
+ghost use Rattle.command_runner.specs.NamedInputs.{Held, first, held_by};
+ghost use Rattle.command_runner.specs.Answer.{outputs_of};
+ghost use Rattle.command_runner.specs.Conduct.{Plans, Prepares, Attempts};
+ghost use Rattle.command_runner.specs.Delivery.{CanDeliver};
+ghost use Rattle.command_runner.specs.Making.{MadeAtOnce};
+ghost use Rattle.command_runner.specs.Plan.{stream_makes};
 ghost use Rattle.render_files.specs.RenderReport.{sound_report};
-ghost use Rattle.num_fix.specs.Limits.{most_frames};
+ghost use Rattle.num_fix.specs.Limits.{max_frames};
 ghost use Rattle.render_files.specs.RenderFiles.{to_come_of, report_of};
 ghost use Rattle.render_options.specs.Options.{options_of, SamplesWithinHour};
 ghost use Rattle.command_render.specs.Render.{length_with, traced_voices, muted_voices, rendered_wave, rendered_trace, rendered_counts, rendering_answer, file_answer, render_over, render_inputs};
 
-use command_frame::{OutOfMemory, Refusal, StreamedPlan, carry_stream};
+use command_runner::{OutOfMemory, Refusal, StreamedPlan, carry_stream};
 use dsp_core::Dsp;
 use exit_status::Cause;
 use gauss_table::GaussTable;
@@ -33,7 +33,7 @@ use wav_form::header;
 fn length_with(samples: Option<u32>, file: &SpcFile) -> Length
     requires { SamplesWithinHour samples }
     ensures length { result ≡ length_with samples file.now }
-    ensures frames { result.frames ≤ most_frames }
+    ensures frames { result.frames ≤ max_frames }
     ensures fade { result.fade ≤ result.frames }
 {
     match samples {
@@ -69,7 +69,7 @@ fn open_files(
     length: Length,
     voices: Option<u8>,
 ) -> Result<RenderFiles<Dsp>, OutOfMemory>
-    requires limit { length.frames ≤ most_frames }
+    requires limit { length.frames ≤ max_frames }
     requires within { length.fade ≤ length.frames }
     ensures wave { IfOk result (λ files. header_of 2 length.frames ++ (to_come_of dsp_chip files).wave ≡ rendered_wave file.now table muted voices length) }
     ensures trace { IfOk result (λ files. (to_come_of dsp_chip files).trace ≡ rendered_trace file.now table muted voices length) }
@@ -155,7 +155,7 @@ pub fn render<H: Host>(
     ensures attempts { let answer = render_over wave.now (options_of options.entry) in
         Attempts answer (render_inputs file.now table.now) result (H.state host.old) (H.state host.new) }
     ensures at_once { let answer = render_over wave.now (options_of options.entry) in
-        IfTold (H.state host.old).holds (λ files.
+        IfKnown (H.state host.old).holds (λ files.
         MadeAtOnce (outputs_of (answer (held_by files (render_inputs file.now table.now)))) (H.state host.old) (H.state host.new)) }
     ensures not_usage { result ≡ Some Refusal.Usage → ⊥ }
 {

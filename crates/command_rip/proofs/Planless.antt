@@ -1,10 +1,10 @@
 -- Where there is no plan.
 use Rattle.std.proofs.Common.{inr, refl, Some, Err}
 use Rattle.snd_host.specs.Host.{HostState}
-use Rattle.command_frame.specs.Answer.{Answer}
-use Rattle.command_frame.specs.Conduct.{Delivery, Plans, CarriesOutInTurn}
-use Rattle.command_frame.specs.declared.refusals.Refusal.{Refusal}
-use Rattle.command_frame.specs.declared.refusals.Refusal.TheVariants.{OutOfMemory}
+use Rattle.command_runner.specs.Answer.{Answer}
+use Rattle.command_runner.specs.Conduct.{Delivery, Plans, CarriesOutInTurn}
+use Rattle.command_runner.specs.declared.refusals.Refusal.{Refusal}
+use Rattle.command_runner.specs.declared.refusals.Refusal.TheVariants.{OutOfMemory}
 
 -- nothing is carried out
 pub not_carried : {P C : Type 0} {makes : P → Delivery} (why : Refusal C) (x : HostState) → CarriesOutInTurn makes (Err why) x x (Some why)

@@ -3,7 +3,7 @@ use Rattle.std.specs.Prelude.{ℕ, ◌-◌, ℤ, Bool, List, [], if◌then◌els
 use Rattle.std.specs.List.{flat_map}
 use Rattle.wav_form.specs.Wave.{sample_bytes}
 use Rattle.sample_rip.specs.Walk.{WalkState, samples_ahead}
-use Rattle.command_frame.specs.Stream.{Both}
+use Rattle.command_runner.specs.Stream.{Both}
 
 pub record PiecesState : Type 0 where
   pub memory : List ℕ

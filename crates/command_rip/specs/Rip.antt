@@ -4,7 +4,7 @@ use Rattle.std.specs.List.{flat_map, range_with_len}
 use Rattle.text_form.specs.Digits.{two_digits, four_digits}
 use Rattle.spc_form.specs.Layout.{dsp_of}
 use Rattle.spc_form.specs.Opening.{opening_memory}
-use Rattle.sample_rip.specs.Entries.{most_entries, is_wanted}
+use Rattle.sample_rip.specs.Entries.{max_entries, is_wanted}
 use Rattle.sample_rip.specs.Rip.{rip_found, rip_samples}
 use Rattle.sample_rip.specs.Reencoded.{rip_report}
 use Rattle.sample_rip.specs.declared.found.RipFound.{RipFound}
@@ -13,14 +13,14 @@ use Rattle.sample_rip.specs.declared.found.RipEnd.TheVariants.{NoLoop, Loop, Out
 use Rattle.sample_rip.specs.declared.reencoding.RipReport.{RipReport}
 use Rattle.snd_host.specs.Host.{Output}
 use Rattle.wav_form.specs.Wave.{mono_wave}
-use Rattle.command_frame.specs.Answer.{Answer, done}
+use Rattle.command_runner.specs.Answer.{Answer, done}
 use Rattle.exit_status.specs.declared.cause.Cause.{Cause}
 use Rattle.input_files.specs.Reading.{answer_from}
 use Rattle.input_files.specs.Inputs.{file_in}
 
 -- the entries that are wanted, in ascending order
 abbrev pub wanted_in : (registers : List ℕ) → Option (ℕ × ℕ) → List ℕ
-wanted_in registers range = filter (is_wanted registers range) (range_with_len 0 most_entries)
+wanted_in registers range = filter (is_wanted registers range) (range_with_len 0 max_entries)
 
 -- the page of the directory, by the registers of the S-DSP
 abbrev pub directory_page : (registers : List ℕ) → ℕ

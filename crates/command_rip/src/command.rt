@@ -1,23 +1,23 @@
 // The command `rip`: samples of a tune as sound files.
 ghost use Rattle.std.specs.Prelude.{◌≡◌, ◌+◌, ◌<◌, ◌≤◌, ◌++◌, map, length, codes, string_bytes, IfOk, [], ◌∷◌};
 ghost use Rattle.spc_form.specs.Layout.{dsp_of};
-ghost use Rattle.sample_rip.specs.Entries.{most_entries};
+ghost use Rattle.sample_rip.specs.Entries.{max_entries};
 ghost use Rattle.spc_form.specs.Opening.{opening_memory};
 ghost use Rattle.snd_host.specs.Host.{HostState};
 ghost use Rattle.input_files.specs.Inputs.{spc_input};
-ghost use Rattle.command_frame.specs.NamedInputs.{Held, first};
-ghost use Rattle.command_frame.specs.Answer.{done};
-ghost use Rattle.command_frame.specs.Conduct.{Plans, AttemptsInTurn};
-ghost use Rattle.command_frame.specs.Delivery.{CanDeliverAll};
-ghost use Rattle.command_frame.specs.Listed.{listed_output, list_makes};
-ghost use Rattle.command_frame.specs.Making.{MadeInTurn};
+ghost use Rattle.command_runner.specs.NamedInputs.{Held, first};
+ghost use Rattle.command_runner.specs.Answer.{done};
+ghost use Rattle.command_runner.specs.Conduct.{Plans, AttemptsInTurn};
+ghost use Rattle.command_runner.specs.Delivery.{CanDeliverAll};
+ghost use Rattle.command_runner.specs.Listed.{listed_output, list_makes};
+ghost use Rattle.command_runner.specs.Making.{MadeInTurn};
 ghost use Rattle.command_rip.specs.Pieces.{to_come_of};
 ghost use Rattle.command_rip.specs.Rip.{wanted_in, directory_page, entry_name, entry_output, entries_answer, file_answer, rip_answer};
 
 use crate::pieces::RipPieces;
 use crate::reports::report_on;
 use aram_core::Aram;
-use command_frame::{ListPlan, ListedOutput, OutOfMemory, Refusal, carry_all};
+use command_runner::{ListPlan, ListedOutput, OutOfMemory, Refusal, carry_all};
 use exit_status::Cause;
 use input_files::read_file;
 use sample_rip::wanted;
@@ -33,7 +33,7 @@ const DIR: usize = 0x5D;
 /// The entries that are wanted, in ascending order.
 fn wanted_in(alloc: Global, file: &SpcFile, range: Option<(u8, u8)>) -> Result<Vec<u8>, OutOfMemory>
     ensures entries { IfOk result (λ entries. entries.items ≡ wanted_in (dsp_of file.now) range) }
-    ensures few { IfOk result (λ entries. length entries.items ≤ most_entries) }
+    ensures few { IfOk result (λ entries. length entries.items ≤ max_entries) }
 {
     let flags = wanted(file, range);
     let mut entries = Vec::new(alloc);
@@ -120,7 +120,7 @@ fn plan_file<'a>(
     requires memory { state.now.memory ≡ opening_memory file.now }
     requires dsp { state.now.dsp ≡ dsp_of file.now }
     ensures plans { Plans (list_makes to_come_of) (file_answer prefix.now range file.now) result }
-    ensures few { IfOk result (λ plan. length plan.outputs.items ≤ most_entries) }
+    ensures few { IfOk result (λ plan. length plan.outputs.items ≤ max_entries) }
 {
     let entries = wanted_in(alloc, file, range)?;
     let plan = plan_entries(alloc, prefix, &state.memory, state.dsp[DIR], &entries)?;
@@ -137,7 +137,7 @@ pub fn rip<H: Host>(
     prefix: &str,
     range: Option<(u8, u8)>,
 ) -> Option<Refusal<Cause>>
-    requires { CanDeliverAll most_entries (H.state host.old) }
+    requires { CanDeliverAll max_entries (H.state host.old) }
     ensures attempts { let answer = λ (held : Held). rip_answer prefix.now range (first held) in
         AttemptsInTurn answer (spc_input input.now ∷ []) result (H.state host.old) (H.state host.new) }
     ensures in_turn { MadeInTurn (H.state host.old) (H.state host.new) }

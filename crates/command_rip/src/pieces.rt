@@ -7,7 +7,7 @@ ghost use Rattle.command_rip.specs.Pieces.{wave_bytes, held_of, to_come_of, work
 
 use aram_core::Aram;
 use byteorder::{ByteOrder, LittleEndian};
-use command_frame::Pieces;
+use command_runner::Pieces;
 use sample_rip::{RipFound, RipWalk};
 use std::marker::Model;
 

@@ -4,7 +4,7 @@ ghost use Rattle.text_form.specs.Digits.{two_digits};
 ghost use Rattle.command_rip.specs.Rip.{loop_text, found_text, error_text, entry_line, entries_report};
 
 use aram_core::Aram;
-use command_frame::OutOfMemory;
+use command_runner::OutOfMemory;
 use report_text::{put_named, put_two_digits, put_word};
 use sample_rip::{RipEnd, RipFound, RipReport, reencode, rip};
 use std::alloc::Global;

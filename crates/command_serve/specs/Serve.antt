@@ -1,15 +1,15 @@
 -- What `serve` answers: the frames that a session plays, each cut a slice of the tune's run, and a reply to each line of its script.
 use Rattle.std.specs.Prelude.{ℕ, ◌≤◌, ℤ, List, [], ◌∷◌, None, Option}
 use Rattle.wav_form.specs.Wave.{stereo_wave}
-use Rattle.page_pool.specs.Pool.{most_pages}
+use Rattle.page_pool.specs.Pool.{max_pages}
 use Rattle.cut_form.specs.declared.script.ScriptLine.{ScriptLine}
 use Rattle.cut_form.specs.declared.script.Reply.{Reply}
-use Rattle.cut_form.specs.Checkpoints.{fewest_pages}
+use Rattle.cut_form.specs.Checkpoints.{min_pages}
 use Rattle.cut_form.specs.Session.{opened_session, replies, played_cuts}
 use Rattle.cut_form.specs.Slices.{cut_frames}
-use Rattle.command_frame.specs.Answer.{Answer, done}
-use Rattle.command_frame.specs.NamedInputs.{NamedInput, Held, first, second, third}
-use Rattle.command_frame.specs.Stream.{pair}
+use Rattle.command_runner.specs.Answer.{Answer, done}
+use Rattle.command_runner.specs.NamedInputs.{NamedInput, Held, first, second, third}
+use Rattle.command_runner.specs.Stream.{pair}
 use Rattle.exit_status.specs.declared.cause.Cause.{Cause}
 use Rattle.input_files.specs.Reading.{answer_from, input_limit, input_up_to}
 use Rattle.input_files.specs.Inputs.{spc_input, table_input, file_in, table_in}
@@ -20,7 +20,7 @@ use Rattle.command_serve.specs.Scripts.{script_in}
 
 -- as many pages as a memory has, or more, up to the most of a pool
 abbrev pub AreOptionsInRange : SessionOptions → Type 0
-AreOptionsInRange options = (fewest_pages ≤ options.pages) × (options.pages ≤ most_pages)
+AreOptionsInRange options = (min_pages ≤ options.pages) × (options.pages ≤ max_pages)
 
 -- the replies to lines of a session over a tune: so many slots for the pages of its checkpoints, and these voices muted
 abbrev pub tune_replies : SessionOptions → (file : List ℕ) → (table : List ℤ) → List ScriptLine → List Reply
@@ -28,10 +28,10 @@ tune_replies options file table lines =
     let pages = tune_pages file table options.muted in
     replies options.pages pages (opened_session pages) lines
 
--- the sound file of what they tell to have been played, and the replies, one a line
+-- the sound file of what they show to have been played, and the replies, one a line
 abbrev pub replies_answer : (wave : List ℕ) → (muted : ℕ) → (file : List ℕ) → (table : List ℤ) → List Reply → Answer Cause
-replies_answer wave muted file table told =
-    done (pair wave None (stereo_wave (cut_frames (tune_frames file table muted 0) (played_cuts told))) []) (report_on told)
+replies_answer wave muted file table known =
+    done (pair wave None (stereo_wave (cut_frames (tune_frames file table muted 0) (played_cuts known))) []) (report_on known)
 
 -- what a script answers over a file and a table
 abbrev pub script_answer : (wave : List ℕ) → SessionOptions → (file : List ℕ) → (table : List ℤ) → List ScriptLine → Answer Cause

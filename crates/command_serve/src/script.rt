@@ -4,7 +4,7 @@ ghost use Rattle.snd_host.specs.Host.{HostState};
 ghost use Rattle.input_files.specs.Reading.{Accepts, Reads, input_limit};
 ghost use Rattle.command_serve.specs.Scripts.{script_of, script_in};
 
-use command_frame::Refusal;
+use command_runner::Refusal;
 use cut_text::{ScriptLines, TextRefusal, read_script};
 use exit_status::Cause;
 use input_files::{INPUT_LIMIT, read_input};

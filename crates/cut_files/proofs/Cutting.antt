@@ -6,7 +6,7 @@ use Rattle.std.proofs.lemmas.Bool.{cases_Bool}
 use Rattle.std.proofs.lemmas.Bool.Decides.{nat_tests}
 use Rattle.std.proofs.lemmas.List.Sums.{sum_by-cons, sum_by_push}
 use Rattle.num_fix.specs.declared.Frame.{Frame}
-use Rattle.num_fix.specs.Limits.{most_frames}
+use Rattle.num_fix.specs.Limits.{max_frames}
 use Rattle.wav_form.specs.Wave.{frame_bytes, header_of, stereo_wave}
 use Rattle.chip_form.specs.ChipMeaning.{ChipMeaning}
 use Rattle.chip_form.specs.ChipSaving.{ChipSaving}
@@ -37,7 +37,7 @@ whole_wave f run at cuts =
     ∙ ap (λ (l : List Frame). header_of 2 (length (cut_frames f cuts)) ++ flat_map frame_bytes (l ++ cut_frames f cuts)) (slice_none f at 0 run refl)
 
 -- each cut of a list ends within an hour
-pub ends_within : (cuts : List Cut) (i : ℕ) (cut : Cut) → EndWithinHour cuts → slice_get cuts i ≡ Some cut → cut.start + cut.count ≤ most_frames
+pub ends_within : (cuts : List Cut) (i : ℕ) (cut : Cut) → EndWithinHour cuts → slice_get cuts i ≡ Some cut → cut.start + cut.count ≤ max_frames
 ends_within [] i cut within is = cc
 ends_within (x ∷ xs) zero cut within is = grind (arith, within.0, is)
 ends_within (x ∷ xs) (suc i) cut within is = ends_within xs i cut within.1 is
@@ -82,14 +82,14 @@ used_if_room slots pages book used = elim (cases_Bool (not (stands_at book.live 
 ]
 
 -- the book of a server that went to a cut and took a checkpoint where there was room
-book_begun : (old mid new : CutBook) (slots start : ℕ) (pages kept : ℕ → List (List ℕ)) → old.made + most_frames < 2 ^ 64 → start ≤ most_frames → slots ≡ slots_for_cuts → kept ≡ pages
+book_begun : (old mid new : CutBook) (slots start : ℕ) (pages kept : ℕ → List (List ℕ)) → old.made + max_frames < 2 ^ 64 → start ≤ max_frames → slots ≡ slots_for_cuts → kept ≡ pages
     → mid ≡ counted_book (after_seek old start) → new ≡ with_one_if_room slots kept mid → new ≡ with_one_if_room slots_for_cuts pages (after_seek old start)
 book_begun old mid new slots start pages kept few within all same gone taken =
     let there : mid ≡ after_seek old start = gone ∙ counted_same (after_seek old start) (omega (arith, few, within)) in
     rw (taken, there, all, same) refl
 
 -- a cut that was begun stays within the bounds
-pub bounds_begun : {book : CutBook} {left more : ℕ} (new : CutBook) (pages : ℕ → List (List ℕ)) (cut : Cut) → IsInBounds book left (suc more) → cut.start + cut.count ≤ most_frames
+pub bounds_begun : {book : CutBook} {left more : ℕ} (new : CutBook) (pages : ℕ → List (List ℕ)) (cut : Cut) → IsInBounds book left (suc more) → cut.start + cut.count ≤ max_frames
     → new ≡ with_one_if_room slots_for_cuts pages (after_seek book cut.start) → IsInBounds new cut.count more
 bounds_begun {book} {left} {more} new pages cut bounds within is =
     let kept : new ≡ with_live (after_seek book cut.start) new.live = rw is (kept_if_room slots_for_cuts pages (after_seek book cut.start)) in
@@ -107,7 +107,7 @@ module _ {S V : Type 0} (chip : ChipMeaning S) (saving : ChipSaving S V) where
   kept_twice first second = record { start = second.start ∙ first.start; slots = second.slots ∙ first.slots }
 
   -- the book of a server that went to a cut and took a checkpoint there
-  pub server_begun : {old mid new : ChipServer S V} {left more : ℕ} (cut : Cut) → IsInBounds (book_of old) left (suc more) → cut.start + cut.count ≤ most_frames → slots_of old ≡ slots_for_cuts
+  pub server_begun : {old mid new : ChipServer S V} {left more : ℕ} (cut : Cut) → IsInBounds (book_of old) left (suc more) → cut.start + cut.count ≤ max_frames → slots_of old ≡ slots_for_cuts
       → KeepsTune chip saving old mid → KeepsTune chip saving mid new → book_of mid ≡ counted_book (after_seek (book_of old) cut.start)
       → book_of new ≡ with_one_if_room (slots_of mid) (pages_at chip saving mid) (book_of mid)
       → book_of new ≡ with_one_if_room slots_for_cuts (pages_at chip saving old) (after_seek (book_of old) cut.start)

@@ -2,7 +2,7 @@
 use Rattle.std.specs.Prelude.{◌≡◌, ℕ, ◌+◌, ◌*◌, ◌^◌, ◌≤◌, ◌<◌, Bool, true, List, [], ◌++◌, drop, fold, length, codes, decimal}
 use Rattle.std.specs.List.{flat_map}
 use Rattle.num_fix.specs.declared.Frame.{Frame}
-use Rattle.num_fix.specs.Limits.{most_frames}
+use Rattle.num_fix.specs.Limits.{max_frames}
 use Rattle.wav_form.specs.Wave.{frame_bytes}
 use Rattle.chip_form.specs.ChipMeaning.{ChipMeaning}
 use Rattle.chip_form.specs.ChipSaving.{ChipSaving}
@@ -12,7 +12,7 @@ use Rattle.cut_form.specs.Slices.{slice_of, cut_frames, cut_samples}
 use Rattle.cut_form.specs.CutBook.{CutBook, after_play, after_cut, slots_for_cuts}
 use Rattle.cut_server.specs.Server.{ChipServer, pages_at, frames_to}
 use Rattle.cut_server.specs.ServerState.{book_of, slots_of}
-use Rattle.command_frame.specs.Stream.{Both}
+use Rattle.command_runner.specs.Stream.{Both}
 use Rattle.cut_form.specs.GrowingFrames.{AreOfRun}
 
 pub record FilesState (S V : Type 0) : Type 0 where
@@ -62,9 +62,9 @@ work_of files = files.left + (length (rest_of files) + cut_samples (rest_of file
 -- What a book keeps while cuts are played: the last cut ends within an hour, the slots in use are slots of the pool, and no
 -- count of 64 bits comes to its end before all cuts are played. A seek makes an hour of samples at most.
 pub record IsInBounds (book : CutBook) (left more : ℕ) : Type 0 where
-  pub within : book.position + left ≤ most_frames
+  pub within : book.position + left ≤ max_frames
   pub used : slots_used book.live ≤ slots_for_cuts
-  pub made : book.made + left + more * (2 * most_frames) < 2 ^ 64
+  pub made : book.made + left + more * (2 * max_frames) < 2 ^ 64
 
 -- What they keep: a server with the slots for cuts, and once the last piece is made, the report and nothing left to play.
 pub record IsPlaying {S V : Type 0} (chip : ChipMeaning S) (saving : ChipSaving S V) (files : FilesState S V) (report : List ℕ) : Type 0 where
@@ -72,5 +72,5 @@ pub record IsPlaying {S V : Type 0} (chip : ChipMeaning S) (saving : ChipSaving 
   pub run : AreOfRun (frames_to chip saving files.server)
   pub begun : files.begun ≤ length files.cuts
   pub bounds : IsInBounds (book_of files.server) files.left (length (rest_of files))
-  pub told : files.is_done ≡ true → report ≡ report_of chip saving files
+  pub known : files.is_done ≡ true → report ≡ report_of chip saving files
   pub done : files.is_done ≡ true → work_of files ≡ 0

@@ -5,5 +5,5 @@ mod marking;
 mod pieces;
 mod report;
 
-pub use command_frame::OutOfMemory;
+pub use command_runner::OutOfMemory;
 pub use pieces::CutFiles;

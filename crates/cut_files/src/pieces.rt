@@ -2,7 +2,7 @@
 ghost use Rattle.std.specs.Prelude.{◌≡◌, ◌+◌, ◌*◌, ◌<◌, ◌≤◌, ◌++◌, [], true, false, length, IfOk};
 ghost use Rattle.wav_form.specs.Wave.{header_of, stereo_wave};
 ghost use Rattle.cut_form.specs.Slices.{cut_frames, cut_samples};
-ghost use Rattle.cut_form.specs.CutBook.{opened_book, cut_book, most_played_bytes, slots_for_cuts};
+ghost use Rattle.cut_form.specs.CutBook.{opened_book, cut_book, max_played_bytes, slots_for_cuts};
 ghost use Rattle.cut_server.specs.Server.{pages_at, frames_to};
 ghost use Rattle.cut_server.specs.ServerState.{book_of, slots_of};
 ghost use Rattle.cut_form.specs.GrowingFrames.{AreOfRun};
@@ -12,12 +12,12 @@ ghost use Rattle.report_text.specs.Room.{room_size};
 use crate::marking::mark_if_room;
 use crate::report::tell;
 use chip_form::Chip;
-use command_frame::{OutOfMemory, Pieces};
-use cut_form::{MOST_PLAYED, PLAYED_BYTES};
+use command_runner::{OutOfMemory, Pieces};
+use cut_form::{MAX_PLAYED, PLAYED_BYTES};
 use cut_server::CutServer;
 use cut_text::CutList;
 use render_files::put_frames;
-use report_text::ByteRoom;
+use report_text::FixedBuffer;
 use std::alloc::Global;
 use std::marker::Model;
 use trace_form::Frames;
@@ -30,9 +30,9 @@ pub struct CutFiles<C: Chip> {
     begun: usize,
     left: u32,
     frames: Frames,
-    wave: ByteRoom,
+    wave: FixedBuffer,
     is_done: bool,
-    report: ByteRoom,
+    report: FixedBuffer,
 }
 
 impl<C: Chip> Model for CutFiles<C> {
@@ -50,8 +50,8 @@ impl<C: Chip> Model for CutFiles<C> {
 #[derive(Drop)]
 struct CutRooms {
     frames: Frames,
-    wave: ByteRoom,
-    report: ByteRoom,
+    wave: FixedBuffer,
+    report: FixedBuffer,
 }
 
 impl CutRooms {
@@ -63,8 +63,8 @@ impl CutRooms {
     {
         Ok(CutRooms {
             frames: Frames::new(alloc)?,
-            wave: ByteRoom::new(alloc)?,
-            report: ByteRoom::new(alloc)?,
+            wave: FixedBuffer::new(alloc)?,
+            report: FixedBuffer::new(alloc)?,
         })
     }
 }
@@ -96,11 +96,11 @@ impl<C: Chip> CutFiles<C> {
         })
     }
 
-    /// The chip of the server that plays. Once the last piece is made, the report tells the samples that it made.
+    /// The chip of the server that plays. Once the last piece is made, the report shows the samples that it made.
     pub fn chip(&self) -> &C
         ensures made { C.total result.now ≡ (book_of self.now.server).made }
         ensures position { C.sample result.now ≡ (book_of self.now.server).position }
-        ensures told { self.now.is_done ≡ true → report_of C.meaning C.saving self.now
+        ensures known { self.now.is_done ≡ true → report_of C.meaning C.saving self.now
             ≡ cuts_report self.now.cuts (record (book_of self.now.server) { made = C.total result.now }) }
     {
         self.server.chip()
@@ -130,12 +130,12 @@ impl<C: Chip> CutFiles<C> {
     /// Plays the next frames of the cut that was begun, 64 at most, and adds their bytes.
     fn play(&mut self)
         requires some { 1 ≤ self.old.left }
-        requires room { length self.old.wave + most_played_bytes ≤ room_size }
+        requires room { length self.old.wave + max_played_bytes ≤ room_size }
         ensures wave_to_come { self.old.wave ++ (to_come_of C.meaning C.saving self.old).wave ≡ self.new.wave ++ (to_come_of C.meaning C.saving self.new).wave }
         ensures report { report_of C.meaning C.saving self.new ≡ report_of C.meaning C.saving self.old }
         ensures less_work { work_of self.new < work_of self.old }
     {
-        let most = self.left.min(MOST_PLAYED);
+        let most = self.left.min(MAX_PLAYED);
         self.server.play(most, &mut self.frames);
         put_frames(&mut self.wave, self.frames.as_slice());
         self.left -= most;

@@ -11,11 +11,11 @@ use chip_form::Chip;
 use cut_form::SLOTS_FOR_CUTS;
 use cut_server::CutServer;
 use cut_text::CutList;
-use report_text::{ByteRoom, put_count};
+use report_text::{FixedBuffer, put_count};
 
 /// Writes the report on cuts that were played, by the server that played them.
 #[tactic(auto, unfolding(crate::specs::CutFiles::cuts_report))]
-pub(crate) fn tell<C: Chip>(report: &mut ByteRoom, cuts: &CutList, server: &CutServer<C>)
+pub(crate) fn tell<C: Chip>(report: &mut FixedBuffer, cuts: &CutList, server: &CutServer<C>)
     requires slots { slots_of server.now ≡ slots_for_cuts }
     requires used { slots_used (book_of server.now).live ≤ slots_for_cuts }
     ensures { report.new ≡ cuts_report cuts.now (book_of server.now) }

@@ -8,7 +8,7 @@ use Rattle.cut_form.specs.declared.script.ScriptLine.TheVariants.{Seek, Play, Ma
 use Rattle.cut_form.specs.declared.script.Reply.TheVariants.{At, Played, Refused, AfterMark, Dropped, NoneAt, Counted}
 use Rattle.cut_form.specs.Checkpoints.{slots_used}
 use Rattle.cut_form.specs.Slices.{cut_samples}
-use Rattle.cut_form.specs.CutBook.{cut_book, most_played, most_played_bytes}
+use Rattle.cut_form.specs.CutBook.{cut_book, max_played, max_played_bytes}
 use Rattle.cut_form.specs.CutList.{cut_list}
 use Rattle.cut_form.specs.Script.{script_lines}
 use Rattle.cut_form.specs.Session.{opened_session, replies, played_cuts}
@@ -73,8 +73,8 @@ unfolding still_pages
 session_to_the_hour = refl
 
 -- a play into a list takes a batch of 64 samples at most, whose frames have 4 bytes each
-the_most_played : most_played ≡ 64
+the_most_played : max_played ≡ 64
 the_most_played = refl
 
-their_bytes : most_played_bytes ≡ 256
+their_bytes : max_played_bytes ≡ 256
 their_bytes = refl

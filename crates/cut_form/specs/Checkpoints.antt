@@ -7,15 +7,15 @@ use Rattle.std.specs.List.{sum_by, count_by, list_any, range_with_len}
 use Rattle.std.specs.Str.{bytes_eq}
 use Rattle.aram_core.specs.Memory.{page_bytes}
 use Rattle.aram_core.specs.declared.aram.TheConstants.{PAGE_COUNT}
-use Rattle.cut_form.specs.declared.cut.TheConstants.{MOST_CHECKPOINTS}
+use Rattle.cut_form.specs.declared.cut.TheConstants.{MAX_CHECKPOINTS}
 
 -- how many pages a memory has
 abbrev pub page_count : ℕ
 page_count = PAGE_COUNT
 
 -- the fewest slots of a pool: the first checkpoint has one for each page
-abbrev pub fewest_pages : ℕ
-fewest_pages = page_count
+abbrev pub min_pages : ℕ
+min_pages = page_count
 
 -- the pages of a memory
 unfoldable pub pages_of : (memory : List ℕ) → List (List ℕ)
@@ -38,8 +38,8 @@ by_places test (x ∷ xs) (y ∷ ys) = test x y ∷ by_places test xs ys
 -- Live checkpoints stand in the order in which they were taken: the newest is the last one, and the first is that of sample 0.
 
 -- the most live checkpoints: 64
-abbrev pub most_checkpoints : ℕ
-most_checkpoints = MOST_CHECKPOINTS
+abbrev pub max_checkpoints : ℕ
+max_checkpoints = MAX_CHECKPOINTS
 
 -- which pages a checkpoint shares with the newest
 abbrev pub shared_with_newest : List Checkpoint → (pages : List (List ℕ)) → List Bool
@@ -64,7 +64,7 @@ slots_free slots live = slots - slots_used live
 
 -- whether there is room for one more with these pages: fewer than 64 are live, and there are slots enough
 abbrev pub has_room_for_one : (slots : ℕ) → (pages : List (List ℕ)) → List Checkpoint → Bool
-has_room_for_one slots pages live = nat_lt (length live) most_checkpoints && nat_le (slots_needed live pages) (slots_free slots live)
+has_room_for_one slots pages live = nat_lt (length live) max_checkpoints && nat_le (slots_needed live pages) (slots_free slots live)
 
 -- one more is taken
 abbrev pub with_checkpoint : List Checkpoint → (sample : ℕ) → (pages : List (List ℕ)) → List Checkpoint

@@ -2,7 +2,7 @@
 -- memory that the run from the opening has once k samples are made.
 use Rattle.std.specs.Prelude.{ℕ, ◌+◌, ◌-◌, ◌*◌, ◌^◌, min, not, ◌&&◌, nat_le, if◌then◌else◌, List, [], fold}
 use Rattle.cut_form.specs.declared.cut.Cut.{Cut}
-use Rattle.cut_form.specs.declared.cut.TheConstants.{MOST_PLAYED, SLOTS_FOR_CUTS}
+use Rattle.cut_form.specs.declared.cut.TheConstants.{MAX_PLAYED, SLOTS_FOR_CUTS}
 use Rattle.cut_form.specs.Checkpoints.{Checkpoint, with_checkpoint, without_checkpoint, slots_needed, has_room_for_one, stands_at, nearest}
 
 pub record CutBook : Type 0 where
@@ -27,12 +27,12 @@ abbrev pub after_seek : CutBook → (at : ℕ) → CutBook
 after_seek book at = record book { position = at; made = book.made + (at - runs_from book at) }
 
 -- the most samples that a server plays into a list at once: 64
-abbrev pub most_played : ℕ
-most_played = MOST_PLAYED
+abbrev pub max_played : ℕ
+max_played = MAX_PLAYED
 
 -- the bytes of these samples in a sound file
-abbrev pub most_played_bytes : ℕ
-most_played_bytes = 4 * most_played
+abbrev pub max_played_bytes : ℕ
+max_played_bytes = 4 * max_played
 
 abbrev pub after_play : CutBook → (count : ℕ) → CutBook
 after_play book count = record book { position = book.position + count; made = book.made + count }

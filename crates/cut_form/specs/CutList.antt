@@ -1,12 +1,12 @@
 -- What a list of cuts says (own).
 use Rattle.std.specs.Prelude.{ℕ, ◌+◌, Bool, ◌&&◌, nat_le, if◌then◌else◌, List, [], ◌∷◌, Option, Some, None, Result, Ok, Err}
-use Rattle.num_fix.specs.Limits.{most_frames}
+use Rattle.num_fix.specs.Limits.{max_frames}
 use Rattle.cut_form.specs.declared.cut.Cut.{Cut}
 use Rattle.cut_form.specs.TextLines.{text_lines, line_words, number_of_word, said_before}
 
 -- the most lines of a list
-abbrev pub most_cuts : ℕ
-most_cuts = 1000
+abbrev pub max_cuts : ℕ
+max_cuts = 1000
 
 -- a cut of two numbers
 abbrev pub cut_of_numbers : Option ℕ → Option ℕ → Option Cut
@@ -25,7 +25,7 @@ cut_of_words (start ∷ (count ∷ (more ∷ rest))) = None
 -- are an hour at most, and where the list isn't too long.
 abbrev pub is_allowed : (number before : ℕ) → Cut → Bool
 is_allowed number before cut =
-    nat_le (cut.start + cut.count) most_frames && (nat_le (before + cut.count) most_frames && nat_le number most_cuts)
+    nat_le (cut.start + cut.count) max_frames && (nat_le (before + cut.count) max_frames && nat_le number max_cuts)
 
 abbrev pub allowed_cut : (number before : ℕ) → Option Cut → Option Cut
 allowed_cut number before None = None

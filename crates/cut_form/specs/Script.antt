@@ -1,19 +1,19 @@
 -- What a script says (own).
 use Rattle.std.specs.Prelude.{ℕ, ◌+◌, nat_le, if◌then◌else◌, List, [], ◌∷◌, Option, Some, None, Result, Ok, Err, codes}
 use Rattle.std.specs.Str.{bytes_eq}
-use Rattle.num_fix.specs.Limits.{most_frames}
+use Rattle.num_fix.specs.Limits.{max_frames}
 use Rattle.cut_form.specs.declared.script.ScriptLine.{ScriptLine}
 use Rattle.cut_form.specs.declared.script.ScriptLine.TheVariants.{Seek, Play, Mark, Drop, Free}
 use Rattle.cut_form.specs.TextLines.{text_lines, line_words, number_of_word, said_before}
 
 -- the most lines of a script
-abbrev pub most_script_lines : ℕ
-most_script_lines = 100000
+abbrev pub max_script_lines : ℕ
+max_script_lines = 100000
 
 -- a line with a number, which is an hour of sound at most
 abbrev pub numbered_line : (ℕ → ScriptLine) → Option ℕ → Option ScriptLine
 numbered_line line None = None
-numbered_line line (Some n) = if nat_le n most_frames then Some (line n) else None
+numbered_line line (Some n) = if nat_le n max_frames then Some (line n) else None
 
 -- what the words of a line say
 abbrev pub line_of_words : List (List ℕ) → Option ScriptLine
@@ -28,7 +28,7 @@ line_of_words (name ∷ (number ∷ (more ∷ rest))) = None
 
 -- what the line of a number says; a script has no more lines than it may have
 abbrev pub line_said : (number : ℕ) → (line : List ℕ) → Option ScriptLine
-line_said number line = if nat_le number most_script_lines then line_of_words (line_words line) else None
+line_said number line = if nat_le number max_script_lines then line_of_words (line_words line) else None
 
 -- what lines say, the first of which has a number, or the number of the first wrong one
 abbrev pub script_from : (number : ℕ) → List (List ℕ) → Result (List ScriptLine) ℕ

@@ -1,6 +1,6 @@
 -- A session: what comes of the lines of a script, one after another, and the replies to them (own).
 use Rattle.std.specs.Prelude.{ℕ, ◌+◌, ◌-◌, not, ◌&&◌, ◌==◌, nat_le, if◌then◌else◌, List, [], ◌∷◌, ◌++◌, length, codes, decimal}
-use Rattle.num_fix.specs.Limits.{most_frames}
+use Rattle.num_fix.specs.Limits.{max_frames}
 use Rattle.cut_form.specs.declared.cut.Cut.{Cut}
 use Rattle.cut_form.specs.declared.mark.Marked.{Marked}
 use Rattle.cut_form.specs.declared.mark.Marked.TheVariants.{Kept, Taken, NoPages}
@@ -32,7 +32,7 @@ with_played session count = record { book = after_play session.book count; frame
 -- frames are played where neither their end nor all frames of the session together are more than an hour
 abbrev pub after_play_line : Session → (count : ℕ) → LineOutcome
 after_play_line session count =
-    if nat_le (session.book.position + count) most_frames && nat_le (session.frames + count) most_frames
+    if nat_le (session.book.position + count) max_frames && nat_le (session.frames + count) max_frames
     then record { session = with_played session count; reply = Played count (session.book.position + count) }
     else record { session = session; reply = Refused count }
 
@@ -64,7 +64,7 @@ replies slots pages_at session (line ∷ lines) =
     let outcome = after_line slots pages_at session line in
     outcome.reply ∷ replies slots pages_at outcome.session lines
 
--- the cuts that were played, as the replies tell
+-- the cuts that were played, as the replies show
 abbrev pub played_cuts : List Reply → List Cut
 played_cuts [] = []
 played_cuts (Played count at ∷ rest) = record { start = at - count; count = count } ∷ played_cuts rest

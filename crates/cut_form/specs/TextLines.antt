@@ -26,12 +26,12 @@ abbrev pub line_words : (line : List ℕ) → List (List ℕ)
 line_words line = slice_split (λ character. character == byte " ") line
 
 -- the most digits of a number
-abbrev pub most_digits : ℕ
-most_digits = 9
+abbrev pub max_digits : ℕ
+max_digits = 9
 
 -- the number that a word is
 abbrev pub number_of_word : (word : List ℕ) → Option ℕ
-number_of_word word = if is_number most_digits word then Some (decimal_value word) else None
+number_of_word word = if is_number max_digits word then Some (decimal_value word) else None
 
 -- what a line says before what others say, unless one of theirs is wrong, which has a number
 abbrev pub said_before : {A : Type 0} → A → Result (List A) ℕ → Result (List A) ℕ

@@ -6,6 +6,6 @@ mod mark;
 mod script;
 
 pub use aram_core::PAGE_COUNT;
-pub use cut::{Cut, MOST_CHECKPOINTS, MOST_FRAMES, MOST_PLAYED, PLAYED_BYTES, SLOTS_FOR_CUTS};
+pub use cut::{Cut, MAX_CHECKPOINTS, MAX_FRAMES, MAX_PLAYED, PLAYED_BYTES, SLOTS_FOR_CUTS};
 pub use mark::{Marked, NoPages};
 pub use script::{Reply, ScriptLine};

@@ -10,7 +10,7 @@ use Rattle.page_pool.specs.declared.slot.Slot.{Slot}
 use Rattle.page_pool.specs.Pool.{free_slot, is_free, slot_at, free_slots, KeepsBytes}
 use Rattle.cut_server.specs.declared.table.LiveCheckpoint.{LiveCheckpoint}
 use Rattle.cut_form.specs.Checkpoints.{Checkpoint, pages_of, by_places, shared_with_newest, own_slots, slots_used, with_checkpoint}
-use Rattle.cut_server.specs.Table.{Saved, saved_checkpoint, saved_checkpoints, memory_in, pages_in, checkpoints_after, times_named, most_named, AreWhole, AreApart, LeavesForGood, StandTogether, AreKeptIn, newest_from}
+use Rattle.cut_server.specs.Table.{Saved, saved_checkpoint, saved_checkpoints, memory_in, pages_in, checkpoints_after, times_named, max_named, AreWhole, AreApart, LeavesForGood, StandTogether, AreKeptIn, newest_from}
 use Rattle.cut_server.specs.Placing.{shared_slots, AreOwned, ArePlaced}
 use Rattle.cut_server.proofs.Shared.{length-by_places, length-pages_of, memory_of_pages}
 use Rattle.page_pool.proofs.Links.{one_if}
@@ -26,7 +26,7 @@ times-le : {S : Type 0} (checkpoints : List (LiveCheckpoint S)) (k : ℕ) → Ar
 times-le [] k whole = omega arith
 times-le (checkpoint ∷ checkpoints) k whole = omega (arith, times-cons checkpoint checkpoints k, count_by-le-length (nat_eq k) checkpoint.pages, whole.0, times-le checkpoints k whole.1)
 
-pub owners_few : {S : Type 0} {pool : List Slot} {checkpoints : List (LiveCheckpoint S)} → AreKeptIn pool checkpoints → (k : ℕ) → (slot_at pool k).owners ≤ most_named
+pub owners_few : {S : Type 0} {pool : List Slot} {checkpoints : List (LiveCheckpoint S)} → AreKeptIn pool checkpoints → (k : ℕ) → (slot_at pool k).owners ≤ max_named
 owners_few {checkpoints = checkpoints} kept k = omega (arith, kept.owners k, kept.few, times-le checkpoints k kept.whole)
 
 pub all_owned : {S : Type 0} (pool : List Slot) (most : ℕ) (checkpoints : List (LiveCheckpoint S)) → ((k : ℕ) → times_named checkpoints k ≤ (slot_at pool k).owners) → ((k : ℕ) → (slot_at pool k).owners ≤ most) → AllOwned pool most checkpoints
@@ -42,11 +42,11 @@ unfolding AllOwned
 newest_owned pool most before [] here owned = here
 newest_owned pool most before (checkpoint ∷ checkpoints) here owned = newest_owned pool most checkpoint.pages checkpoints owned.0 owned.1
 
-kept_owned : {S : Type 0} {pool : List Slot} {checkpoints : List (LiveCheckpoint S)} → AreKeptIn pool checkpoints → AllOwned pool most_named checkpoints
-kept_owned {pool = pool} {checkpoints} kept = all_owned pool most_named checkpoints (λ k. omega (arith, kept.owners k)) (owners_few kept)
+kept_owned : {S : Type 0} {pool : List Slot} {checkpoints : List (LiveCheckpoint S)} → AreKeptIn pool checkpoints → AllOwned pool max_named checkpoints
+kept_owned {pool = pool} {checkpoints} kept = all_owned pool max_named checkpoints (λ k. omega (arith, kept.owners k)) (owners_few kept)
 
-pub newest_is_owned : {S : Type 0} {pool : List Slot} {checkpoints : List (LiveCheckpoint S)} → AreKeptIn pool checkpoints → AreOwned pool most_named (newest_from [] checkpoints)
-newest_is_owned {pool = pool} {checkpoints} kept = newest_owned pool most_named [] checkpoints tt (kept_owned kept)
+pub newest_is_owned : {S : Type 0} {pool : List Slot} {checkpoints : List (LiveCheckpoint S)} → AreKeptIn pool checkpoints → AreOwned pool max_named (newest_from [] checkpoints)
+newest_is_owned {pool = pool} {checkpoints} kept = newest_owned pool max_named [] checkpoints tt (kept_owned kept)
 
 pub newest_apart : {S : Type 0} {pool : List Slot} {checkpoints : List (LiveCheckpoint S)} → AreKeptIn pool checkpoints → AreApart (newest_from [] checkpoints)
 newest_apart {S = S} {checkpoints = checkpoints} kept = last_apart [] checkpoints (λ k. omega arith) kept.runs
@@ -86,16 +86,16 @@ checkpoints-kept old new a b before [] checkpoint keeps was is = refl
 checkpoints-kept old new a b before (x ∷ xs) checkpoint keeps was is = rw (pages_in-kept old new a b x.pages keeps was.0 is.0, checkpoints-kept old new a b x.pages xs checkpoint keeps was.1 is.1) refl
 
 -- the table with one more
-later_owned : {S : Type 0} {old : List Slot} {checkpoints : List (LiveCheckpoint S)} → AreKeptIn old checkpoints → (new : List Slot) (newest : List ℕ) (pages : List (List ℕ)) (slots : List ℕ) → ArePlaced old new newest pages slots → AllOwned new (most_named + length slots) checkpoints
+later_owned : {S : Type 0} {old : List Slot} {checkpoints : List (LiveCheckpoint S)} → AreKeptIn old checkpoints → (new : List Slot) (newest : List ℕ) (pages : List (List ℕ)) (slots : List ℕ) → ArePlaced old new newest pages slots → AllOwned new (max_named + length slots) checkpoints
 later_owned {old = old} {checkpoints} kept new newest pages slots are =
-    all_owned new (most_named + length slots) checkpoints (λ k. omega (arith, are.owners k, kept.owners k)) (λ k. omega (arith, are.owners k, owners_few kept k, count_by-le-length (nat_eq k) slots))
+    all_owned new (max_named + length slots) checkpoints (λ k. omega (arith, are.owners k, kept.owners k)) (λ k. omega (arith, are.owners k, owners_few kept k, count_by-le-length (nat_eq k) slots))
 
 pub saved_added : {S : Type 0} {old : List Slot} {checkpoints : List (LiveCheckpoint S)} → AreKeptIn old checkpoints → (new : List Slot) (newest : List ℕ) (memory : List ℕ) (checkpoint : LiveCheckpoint S) → ArePlaced old new newest (pages_of memory) checkpoint.pages
     → memory_in new checkpoint.pages ≡ memory → saved_checkpoints new (checkpoints ++ checkpoint ∷ []) ≡ saved_checkpoints old checkpoints ++ record { sample = checkpoint.sample; state = checkpoint.state; memory = memory } ∷ []
 saved_added {S = S} {old} {checkpoints} kept new newest memory checkpoint are holds =
     let make : List ℕ → List (Saved S) = λ m. saved_checkpoints old checkpoints ++ record { sample = checkpoint.sample; state = checkpoint.state; memory = m } ∷ [] in
     map_push (saved_checkpoint new) checkpoints checkpoint
-    ∙ ap (λ l. l ++ saved_checkpoint new checkpoint ∷ []) (saved_checkpoints-kept old new most_named (most_named + length checkpoint.pages) checkpoints are.bytes (kept_owned kept) (later_owned kept new newest (pages_of memory) checkpoint.pages are))
+    ∙ ap (λ l. l ++ saved_checkpoint new checkpoint ∷ []) (saved_checkpoints-kept old new max_named (max_named + length checkpoint.pages) checkpoints are.bytes (kept_owned kept) (later_owned kept new newest (pages_of memory) checkpoint.pages are))
     ∙ ap make holds
 
 pub live_added : {S : Type 0} {old : List Slot} {checkpoints : List (LiveCheckpoint S)} → AreKeptIn old checkpoints → (new : List Slot) (memory : List ℕ) (checkpoint : LiveCheckpoint S) → ArePlaced old new (newest_from [] checkpoints) (pages_of memory) checkpoint.pages → length checkpoint.pages ≡ 256
@@ -107,7 +107,7 @@ live_added {old = old} {checkpoints} kept new memory checkpoint are whole =
     let pages : pages_in new checkpoint.pages ≡ pages_of memory = are.holds ∙ take_all (length checkpoint.pages) (pages_of memory) (omega (arith, length-pages_of memory)) in
     let shared : by_places nat_eq checkpoint.pages newest ≡ shared_with_newest (checkpoints_after old [] checkpoints) (pages_of memory) = are.shared ∙ take_all (length checkpoint.pages) sh (omega arith) ∙ sym (shared_live old checkpoints (pages_of memory)) in
     let make : List (List ℕ) → List Bool → List Checkpoint = λ p s. checkpoints_after old [] checkpoints ++ record { sample = checkpoint.sample; pages = p; shared = s } ∷ [] in
-    checkpoints-kept old new most_named (most_named + length checkpoint.pages) [] checkpoints checkpoint are.bytes (kept_owned kept) (later_owned kept new newest (pages_of memory) checkpoint.pages are)
+    checkpoints-kept old new max_named (max_named + length checkpoint.pages) [] checkpoints checkpoint are.bytes (kept_owned kept) (later_owned kept new newest (pages_of memory) checkpoint.pages are)
     ∙ ap (λ p. make p (by_places nat_eq checkpoint.pages newest)) pages ∙ ap (λ s. make (pages_of memory) s) shared
 
 pub free_added : {S : Type 0} (old : List Slot) (checkpoints : List (LiveCheckpoint S)) (new : List Slot) (memory : List ℕ) (slots : List ℕ) → ArePlaced old new (newest_from [] checkpoints) (pages_of memory) slots → length slots ≡ 256

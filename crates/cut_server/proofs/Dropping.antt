@@ -6,7 +6,7 @@ use Rattle.page_pool.specs.declared.slot.Slot.{Slot}
 use Rattle.page_pool.specs.Pool.{slot_at, KeepsBytes}
 use Rattle.cut_form.specs.Checkpoints.{slots_used, without_entry}
 use Rattle.cut_server.specs.declared.table.LiveCheckpoint.{LiveCheckpoint}
-use Rattle.cut_server.specs.Table.{saved_checkpoint, saved_checkpoints, checkpoints_after, times_named, most_named, AreApart, StandTogether, AreKeptIn}
+use Rattle.cut_server.specs.Table.{saved_checkpoint, saved_checkpoints, checkpoints_after, times_named, max_named, AreApart, StandTogether, AreKeptIn}
 use Rattle.cut_server.specs.Placing.{AreGiven}
 use Rattle.cut_server.proofs.Naming.{times-remove}
 use Rattle.cut_server.proofs.Placing.{pages_in-kept}
@@ -34,17 +34,17 @@ pub record IsDropping {S : Type 0} (old new : List Slot) (checkpoints : List (Li
 owners_dropped : {S : Type 0} {old new : List Slot} {checkpoints : List (LiveCheckpoint S)} {i : ℕ} {checkpoint : LiveCheckpoint S} → IsDropping old new checkpoints i checkpoint → (k : ℕ) → (slot_at new k).owners ≡ times_named (remove checkpoints i) k
 owners_dropped {checkpoints = checkpoints} {i} {checkpoint} is k = omega (arith, is.given.owners k, is.kept.owners k, times-remove checkpoints i checkpoint k is.within is.read)
 
-owned_old : {S : Type 0} {old new : List Slot} {checkpoints : List (LiveCheckpoint S)} {i : ℕ} {checkpoint : LiveCheckpoint S} → IsDropping old new checkpoints i checkpoint → AllOwned old most_named (remove checkpoints i)
-owned_old {old = old} {checkpoints = checkpoints} {i} {checkpoint} is = all_owned old most_named (remove checkpoints i) (λ k. omega (arith, is.kept.owners k, times-remove checkpoints i checkpoint k is.within is.read)) (owners_few is.kept)
+owned_old : {S : Type 0} {old new : List Slot} {checkpoints : List (LiveCheckpoint S)} {i : ℕ} {checkpoint : LiveCheckpoint S} → IsDropping old new checkpoints i checkpoint → AllOwned old max_named (remove checkpoints i)
+owned_old {old = old} {checkpoints = checkpoints} {i} {checkpoint} is = all_owned old max_named (remove checkpoints i) (λ k. omega (arith, is.kept.owners k, times-remove checkpoints i checkpoint k is.within is.read)) (owners_few is.kept)
 
-owned_new : {S : Type 0} {old new : List Slot} {checkpoints : List (LiveCheckpoint S)} {i : ℕ} {checkpoint : LiveCheckpoint S} → IsDropping old new checkpoints i checkpoint → AllOwned new most_named (remove checkpoints i)
-owned_new {new = new} {checkpoints} {i} is = all_owned new most_named (remove checkpoints i) (λ k. omega (arith, owners_dropped is k)) (λ k. omega (arith, is.given.owners k, owners_few is.kept k))
+owned_new : {S : Type 0} {old new : List Slot} {checkpoints : List (LiveCheckpoint S)} {i : ℕ} {checkpoint : LiveCheckpoint S} → IsDropping old new checkpoints i checkpoint → AllOwned new max_named (remove checkpoints i)
+owned_new {new = new} {checkpoints} {i} is = all_owned new max_named (remove checkpoints i) (λ k. omega (arith, owners_dropped is k)) (λ k. omega (arith, is.given.owners k, owners_few is.kept k))
 
 live_same : {S : Type 0} {old new : List Slot} {checkpoints : List (LiveCheckpoint S)} {i : ℕ} {checkpoint : LiveCheckpoint S} → IsDropping old new checkpoints i checkpoint → checkpoints_after new [] (remove checkpoints i) ≡ checkpoints_after old [] (remove checkpoints i)
-live_same {old = old} {new} {checkpoints} {i} is = checkpoints-same old new most_named most_named [] (remove checkpoints i) is.given.bytes (owned_old is) (owned_new is)
+live_same {old = old} {new} {checkpoints} {i} is = checkpoints-same old new max_named max_named [] (remove checkpoints i) is.given.bytes (owned_old is) (owned_new is)
 
 pub saved_dropped : {S : Type 0} {old new : List Slot} {checkpoints : List (LiveCheckpoint S)} {i : ℕ} {checkpoint : LiveCheckpoint S} → IsDropping old new checkpoints i checkpoint → saved_checkpoints new (remove checkpoints i) ≡ remove (saved_checkpoints old checkpoints) i
-saved_dropped {old = old} {new} {checkpoints} {i} is = saved_checkpoints-kept old new most_named most_named (remove checkpoints i) is.given.bytes (owned_old is) (owned_new is) ∙ map_removed (saved_checkpoint old) checkpoints i
+saved_dropped {old = old} {new} {checkpoints} {i} is = saved_checkpoints-kept old new max_named max_named (remove checkpoints i) is.given.bytes (owned_old is) (owned_new is) ∙ map_removed (saved_checkpoint old) checkpoints i
 
 pub live_dropped : {S : Type 0} {old new : List Slot} {checkpoints : List (LiveCheckpoint S)} {i : ℕ} {checkpoint : LiveCheckpoint S} → IsDropping old new checkpoints i checkpoint → checkpoints_after new [] (remove checkpoints i) ≡ without_entry (checkpoints_after old [] checkpoints) i
 live_dropped {old = old} {checkpoints = checkpoints} {i} is = live_same is ∙ live_removed checkpoints i (among_all old checkpoints is.kept.runs is.kept.whole is.kept.owners) is.within

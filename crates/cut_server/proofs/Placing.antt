@@ -10,13 +10,13 @@ use Rattle.std.proofs.lemmas.Bool.{cases_Bool, cases_eq, cases_lt, true≢false}
 use Rattle.std.proofs.lemmas.Bool.Decides.{nat_tests}
 use Rattle.std.proofs.lemmas.Slice.Eq.{bytes_eq-Decides}
 use Rattle.page_pool.specs.declared.slot.Slot.{Slot}
-use Rattle.page_pool.specs.Pool.{most_owners, free_slot, slot_at, free_slots, held_slot, with_owner, after_share, after_take, KeepsBytes}
+use Rattle.page_pool.specs.Pool.{max_owners, free_slot, slot_at, free_slots, held_slot, with_owner, after_share, after_take, KeepsBytes}
 use Rattle.page_pool.proofs.Links.{one_if, free_slots-set, within_of_owned, free_test, owned_test}
 use Rattle.page_pool.proofs.Kept.{shared_keeps, taken_keeps}
 use Rattle.cut_form.specs.Checkpoints.{pages_of, by_places, own_slots}
 use Rattle.cut_server.proofs.Naming.{IsNamedAt, named_place, apart_places}
 use Rattle.cut_server.proofs.Shared.{length-by_places, slice_get-by_places, slot_unshared}
-use Rattle.cut_server.specs.Table.{pages_in, most_named, AreApart}
+use Rattle.cut_server.specs.Table.{pages_in, max_named, AreApart}
 use Rattle.cut_server.specs.Placing.{shared_slots, AreOwned, IsPlaced, ArePlaced}
 
 one_if-le : (b : Bool) → one_if b ≤ 1
@@ -145,7 +145,7 @@ placed_none old newest pages = record {
 }
 
 -- a slot of the newest wasn't placed at an earlier page
-placed_earlier : (old mid : List Slot) (newest : List ℕ) (pages : List (List ℕ)) (placed : List ℕ) (slot : ℕ) → ArePlaced old mid newest pages placed → AreOwned old most_named newest → AreApart newest
+placed_earlier : (old mid : List Slot) (newest : List ℕ) (pages : List (List ℕ)) (placed : List ℕ) (slot : ℕ) → ArePlaced old mid newest pages placed → AreOwned old max_named newest → AreApart newest
     → slot ≡ slice_index newest (length placed) → length placed < length newest → IsNamedAt placed slot → ⊥
 placed_earlier old mid newest pages placed slot are owned apart named within at = elim (cases_lt at.place (length newest)) [
   | inl inside ↦ elim (cases_eq (slice_index placed at.place) (slice_index newest at.place)) [
@@ -158,10 +158,10 @@ placed_earlier old mid newest pages placed slot are owned apart named within at 
 ]
   where
     no_owner : (slot_at old (slice_index placed at.place)).owners ≡ 0 → ⊥
-    no_owner none = omega (arith, none, ap (λ k. (slot_at old k).owners) (at.here ∙ named), (owned_at old most_named newest (length placed) 0 owned within).0)
+    no_owner none = omega (arith, none, ap (λ k. (slot_at old k).owners) (at.here ∙ named), (owned_at old max_named newest (length placed) 0 owned within).0)
 
 -- a page that is shared
-pub shared_more : (old mid new : List Slot) (newest : List ℕ) (pages : List (List ℕ)) (placed : List ℕ) (slot most : ℕ) → ArePlaced old mid newest pages placed → AreOwned old most_named newest → AreApart newest → AreOwned mid most newest → length placed < length pages → slice_get (shared_slots mid newest pages) (length placed) ≡ Some true
+pub shared_more : (old mid new : List Slot) (newest : List ℕ) (pages : List (List ℕ)) (placed : List ℕ) (slot most : ℕ) → ArePlaced old mid newest pages placed → AreOwned old max_named newest → AreApart newest → AreOwned mid most newest → length placed < length pages → slice_get (shared_slots mid newest pages) (length placed) ≡ Some true
     → IsPlaced mid new newest pages (length placed) slot → IsMore mid new newest pages placed slot true
 shared_more old mid new newest pages placed slot most are was apart owned within is placed_here =
     let n = length placed in
@@ -247,46 +247,46 @@ owned_weaken pool a b [] le owned = tt
 owned_weaken pool a b (x ∷ xs) le owned = (owned.0, omega (arith, owned.1), owned_weaken pool a b xs le owned.2)
 
 -- While up to 256 pages are placed.
-pub placed_owned : (old mid : List Slot) (newest : List ℕ) (pages : List (List ℕ)) (placed : List ℕ) → ArePlaced old mid newest pages placed → length placed ≤ 256 → AreOwned old most_named newest → AreOwned mid most_owners newest
-placed_owned old mid newest pages placed are few owned = owned_weaken mid (most_named + length placed) most_owners newest (omega arith) (owned_later old mid newest pages placed most_named newest are owned)
+pub placed_owned : (old mid : List Slot) (newest : List ℕ) (pages : List (List ℕ)) (placed : List ℕ) → ArePlaced old mid newest pages placed → length placed ≤ 256 → AreOwned old max_named newest → AreOwned mid max_owners newest
+placed_owned old mid newest pages placed are few owned = owned_weaken mid (max_named + length placed) max_owners newest (omega arith) (owned_later old mid newest pages placed max_named newest are owned)
 
 -- what was found of a page at first holds when it is its turn
 pub placed_shared : (old mid : List Slot) (newest : List ℕ) (pages : List (List ℕ)) (placed : List ℕ) (shared : List Bool) → ArePlaced old mid newest pages placed → length placed < length pages
-    → AreOwned old most_named newest → shared ≡ shared_slots old newest pages → slice_get (shared_slots mid newest pages) (length placed) ≡ Some (get_or shared (length placed) false)
+    → AreOwned old max_named newest → shared ≡ shared_slots old newest pages → slice_get (shared_slots mid newest pages) (length placed) ≡ Some (get_or shared (length placed) false)
 placed_shared old mid newest pages placed shared are within owned found =
-    rw (shared_later old mid newest pages placed most_named are owned, found) (slice_get-get_or (shared_slots old newest pages) (length placed) false (omega (arith, length-by_places bytes_eq pages (pages_in old newest))))
+    rw (shared_later old mid newest pages placed max_named are owned, found) (slice_get-get_or (shared_slots old newest pages) (length placed) false (omega (arith, length-by_places bytes_eq pages (pages_in old newest))))
 
-pub placed_room : (old mid : List Slot) (newest : List ℕ) (pages : List (List ℕ)) (placed : List ℕ) → ArePlaced old mid newest pages placed → length placed < length pages → AreOwned old most_named newest
+pub placed_room : (old mid : List Slot) (newest : List ℕ) (pages : List (List ℕ)) (placed : List ℕ) → ArePlaced old mid newest pages placed → length placed < length pages → AreOwned old max_named newest
     → own_slots (shared_slots old newest pages) ≤ free_slots old → slice_get (shared_slots mid newest pages) (length placed) ≡ Some false → 0 < free_slots mid
 placed_room old mid newest pages placed are within owned room is =
     let n = length placed in
     let sh = shared_slots old newest pages in
     let inside : n < length sh = omega (arith, length-by_places bytes_eq pages (pages_in old newest)) in
-    let here : get_or sh n false ≡ false = get_or_from_slice_get sh n false false (rw (← shared_later old mid newest pages placed most_named are owned) is) in
+    let here : get_or sh n false ≡ false = get_or_from_slice_get sh n false false (rw (← shared_later old mid newest pages placed max_named are owned) is) in
     let more : own_slots (take (n + 1) sh) ≡ own_slots (take n sh) + one_if (not (get_or sh n false)) = sum_by_more (λ b. one_if (not b)) sh n false inside in
     omega (arith, are.free, room, more, ap (λ b. one_if (not b)) here, sum_by-take-le (λ b. one_if (not b)) sh (n + 1))
 
-pub placed_step : (old mid new : List Slot) (newest : List ℕ) (pages : List (List ℕ)) (placed : List ℕ) (slot : ℕ) → ArePlaced old mid newest pages placed → length placed < length pages → AreOwned old most_named newest → AreApart newest
-    → ((k : ℕ) → (slot_at old k).owners ≤ most_named) → IsPlaced mid new newest pages (length placed) slot → ArePlaced old new newest pages (placed ++ slot ∷ [])
+pub placed_step : (old mid new : List Slot) (newest : List ℕ) (pages : List (List ℕ)) (placed : List ℕ) (slot : ℕ) → ArePlaced old mid newest pages placed → length placed < length pages → AreOwned old max_named newest → AreApart newest
+    → ((k : ℕ) → (slot_at old k).owners ≤ max_named) → IsPlaced mid new newest pages (length placed) slot → ArePlaced old new newest pages (placed ++ slot ∷ [])
 placed_step old mid new newest pages placed slot are within owned apart few placed_here =
     let n = length placed in
     let sh = shared_slots old newest pages in
     let inside : n < length sh = omega (arith, length-by_places bytes_eq pages (pages_in old newest)) in
-    let same : shared_slots mid newest pages ≡ sh = shared_later old mid newest pages placed most_named are owned in
-    let mid_owned : AreOwned mid (most_named + n) newest = owned_later old mid newest pages placed most_named newest are owned in
+    let same : shared_slots mid newest pages ≡ sh = shared_later old mid newest pages placed max_named are owned in
+    let mid_owned : AreOwned mid (max_named + n) newest = owned_later old mid newest pages placed max_named newest are owned in
     let read : slice_get sh n ≡ Some (get_or sh n false) = slice_get-get_or sh n false inside in
     elim (cases_Bool (get_or sh n false)) [
       | inl is ↦
           let yes : slice_get sh n ≡ Some true = read ∙ ap (λ b. Some b) is in
-          placed_more old mid new newest pages placed slot true most_named are within yes few (shared_more old mid new newest pages placed slot (most_named + n) are owned apart mid_owned within (rw same yes) placed_here)
+          placed_more old mid new newest pages placed slot true max_named are within yes few (shared_more old mid new newest pages placed slot (max_named + n) are owned apart mid_owned within (rw same yes) placed_here)
       | inr is ↦
           let no : slice_get sh n ≡ Some false = read ∙ ap (λ b. Some b) is in
-          placed_more old mid new newest pages placed slot false most_named are within no few (taken_more old mid new newest pages placed slot (most_named + n) are mid_owned (rw same no) placed_here)
+          placed_more old mid new newest pages placed slot false max_named are within no few (taken_more old mid new newest pages placed slot (max_named + n) are mid_owned (rw same no) placed_here)
     ]
 
 -- the same in an array of slots
-pub placed_set : (old mid new : List Slot) (newest : List ℕ) (pages : List (List ℕ)) (slots : List ℕ) (n slot : ℕ) → ArePlaced old mid newest pages (take n slots) → length slots ≡ 256 → length pages ≡ 256 → n < 256 → AreOwned old most_named newest → AreApart newest
-    → ((k : ℕ) → (slot_at old k).owners ≤ most_named) → IsPlaced mid new newest pages n slot → ArePlaced old new newest pages (take (n + 1) (set slots n slot))
+pub placed_set : (old mid new : List Slot) (newest : List ℕ) (pages : List (List ℕ)) (slots : List ℕ) (n slot : ℕ) → ArePlaced old mid newest pages (take n slots) → length slots ≡ 256 → length pages ≡ 256 → n < 256 → AreOwned old max_named newest → AreApart newest
+    → ((k : ℕ) → (slot_at old k).owners ≤ max_named) → IsPlaced mid new newest pages n slot → ArePlaced old new newest pages (take (n + 1) (set slots n slot))
 placed_set old mid new newest pages slots n slot are long whole within owned apart few placed_here =
     let size : length (take n slots) ≡ n = length-take-le n slots (omega arith) in
     rw (take_more_set slots n slot (omega arith)) (placed_step old mid new newest pages (take n slots) slot are (omega arith) owned apart few (rw size placed_here))

@@ -1,6 +1,6 @@
 -- The render of a server: its whole machine, where it is loaded and where it runs.
 use Rattle.std.proofs.Common.{◌≡◌, ℕ, ◌-◌, ◌^◌, ◌<◌, ◌≤◌, List, [], refl, sym, ap, ◌∙◌, arith}
-use Rattle.num_fix.specs.Limits.{most_frames}
+use Rattle.num_fix.specs.Limits.{max_frames}
 use Rattle.chip_form.specs.Samples.{count_after}
 use Rattle.chip_form.specs.ChipMeaning.{ChipMeaning}
 use Rattle.chip_form.specs.ChipSaving.{ChipSaving}
@@ -24,7 +24,7 @@ use Rattle.cut_server.specs.Table.{TableState, Saved, saved_of, live_checkpoints
 use Rattle.cut_server.specs.Server.{lock_step_machines, standing_of, chip_after}
 use Rattle.cut_server.specs.ServerState.{book_of, first_machine, pages_after}
 use Rattle.cut_server.specs.IsServed.{IsOnTheRun}
-use Rattle.cut_server.specs.Renders.{HasHandedOver, IsServing, IsOnWay, RunsOut}
+use Rattle.cut_server.specs.Renders.{HasHandedOver, IsServing, IsOnCandidate, RunsOut}
 
 -- the machines of a chip are lawful
 pub machines_lawful : {S V : Type 0} (chip : ChipMeaning S) (saving : ChipSaving S V) → IsLawfulSaving chip saving → AreLawful (lock_step_machines chip saving)
@@ -44,7 +44,7 @@ machines_lawful chip saving saves =
     }
 
 -- what was saved of a machine can be loaded
-can_be_played : {S V : Type 0} {chip : ChipMeaning S} {saving : ChipSaving S V} → IsLawfulSaving chip saving → (w : Whole (Machine S)) → due_in w ≤ most_frames → CanBePlayed saving (saved_whole saving w)
+can_be_played : {S V : Type 0} {chip : ChipMeaning S} {saving : ChipSaving S V} → IsLawfulSaving chip saving → (w : Whole (Machine S)) → due_in w ≤ max_frames → CanBePlayed saving (saved_whole saving w)
 can_be_played saves w few = record {
   bus = record { number = sym (saves.number_saved w.1.chip (due_in w)); few = omega (arith, few) };
   few = omega (arith, few, saves.number_saved w.1.chip (due_in w));
@@ -143,14 +143,14 @@ pub needed_is : {S V : Type 0} {chip : ChipMeaning S} {saving : ChipSaving S V} 
 needed_is {table = table} serving memory is need needed = needed ∙ ap (slots_needed (live_checkpoints table)) (pages_here serving memory is)
 
 pub taken_is : {S V : Type 0} {chip : ChipMeaning S} {saving : ChipSaving S V} {render : RenderState S} {made : ℕ} {table : TableState (PlayState V)} {at : ℕ} → IsServing chip saving render made table at → (memory : List ℕ)
-    → memory ≡ render.bus.machine.memory → (new : TableState (PlayState V)) → live_checkpoints new ≡ with_checkpoint (live_checkpoints table) at (pages_of memory) → {told : ℕ}
-    → book_of (record { standing = standing_of render; made = told; table = new })
-    ≡ with_one_here (pages_after (lock_step_machines chip saving) (opening_of chip saving render table)) (book_of (record { standing = standing_of render; made = told; table = table }))
-taken_is {chip = chip} {saving} {render} {table = table} {at} serving memory is new live {told} =
+    → memory ≡ render.bus.machine.memory → (new : TableState (PlayState V)) → live_checkpoints new ≡ with_checkpoint (live_checkpoints table) at (pages_of memory) → {known : ℕ}
+    → book_of (record { standing = standing_of render; made = known; table = new })
+    ≡ with_one_here (pages_after (lock_step_machines chip saving) (opening_of chip saving render table)) (book_of (record { standing = standing_of render; made = known; table = table }))
+taken_is {chip = chip} {saving} {render} {table = table} {at} serving memory is new live {known} =
     let before = live_checkpoints table in
-    ap (with_live (book_of (record { standing = standing_of render; made = told; table = table })))
+    ap (with_live (book_of (record { standing = standing_of render; made = known; table = table })))
     (live ∙ ap (λ k. with_checkpoint before k (pages_of memory)) (sym serving.served.position) ∙ ap (with_checkpoint before render.samples) (pages_here serving memory is))
 
 -- While a render runs to its length.
-pub way_begun : {S : Type 0} (chip : ChipMeaning S) (render : RenderState S) → render.bus.chip_total < 2 ^ 64 → IsOnWay chip render render
+pub way_begun : {S : Type 0} (chip : ChipMeaning S) (render : RenderState S) → render.bus.chip_total < 2 ^ 64 → IsOnCandidate chip render render
 way_begun chip render few = record { samples = refl; whole = refl; rises = omega arith; total = omega (arith, few) }

@@ -190,9 +190,9 @@ module _ {S V : Type 0} {chip : ChipMeaning S} {saving : ChipSaving S V} (saves 
         ∙ ap (λ w. pages_of w.1.memory) (sym (after_none (machines_lawful chip saving saves) (new.cpu, new.bus.machine) here_0))
         ∙ ap (λ w. pages_after (lock_step_machines chip saving) w 0) (sym begun)
 
-    pub book_anew : live_checkpoints next ≡ with_checkpoint [] 0 (pages_of memory) → {told was : ℕ} → told ≡ was
-        → book_of (record { standing = standing_of new; made = told; table = next }) ≡ record (opened_book (pages_after (lock_step_machines chip saving) (opening_of chip saving new next))) { made = was }
-    book_anew live {told} same =
+    pub book_anew : live_checkpoints next ≡ with_checkpoint [] 0 (pages_of memory) → {known was : ℕ} → known ≡ was
+        → book_of (record { standing = standing_of new; made = known; table = next }) ≡ record (opened_book (pages_after (lock_step_machines chip saving) (opening_of chip saving new next))) { made = was }
+    book_anew live {known} same =
         let make : ℕ → List Checkpoint → ℕ → CutBook = λ p l m. record { position = p; live = l; made = m } in
         let first = with_checkpoint [] 0 (pages_after (lock_step_machines chip saving) (opening_of chip saving new next) 0) in
-        ap (λ p. make p (live_checkpoints next) told) samples_0 ∙ ap (λ l. make 0 l told) (live ∙ ap (with_checkpoint [] 0) pages_0) ∙ ap (make 0 first) same
+        ap (λ p. make p (live_checkpoints next) known) samples_0 ∙ ap (λ l. make 0 l known) (live ∙ ap (with_checkpoint [] 0) pages_0) ∙ ap (make 0 first) same

@@ -1,7 +1,7 @@
 -- A server over a render, wherever it goes.
 use Rattle.std.proofs.Common.{◌≡◌, ℕ, ◌+◌, ◌-◌, ◌/◌, ◌<◌, ◌≤◌, true, List, [], ◌∷◌, ◌++◌, length, ap, ◌∙◌, arith, Some}
 use Rattle.std.specs.List.{slice_get, remove_range}
-use Rattle.num_fix.specs.Limits.{most_frames}
+use Rattle.num_fix.specs.Limits.{max_frames}
 use Rattle.chip_form.specs.Samples.{count_after}
 use Rattle.chip_form.specs.ChipMeaning.{ChipMeaning}
 use Rattle.chip_form.specs.ChipSaving.{ChipSaving}
@@ -66,15 +66,15 @@ module _ {S V : Type 0} {chip : ChipMeaning S} {saving : ChipSaving S V} where
       }
 
   pub goes_back_to : IsLawfulSaving chip saving → {render : RenderState S} {made : ℕ} {table : TableState (PlayState V)} {at : ℕ} → IsServing chip saving render made table at → (i : ℕ) (s : Saved (PlayState V)) → slice_get (saved_of table) i ≡ Some s
-      → (new : RenderState S) → new ≡ loaded_render chip saving render s.state s.memory → {told still : ℕ} → still ≡ told
-      → GoesBack (lock_step_machines chip saving) (record { standing = standing_of render; made = told; table = table }) (record { standing = standing_of new; made = still; table = table }) i
+      → (new : RenderState S) → new ≡ loaded_render chip saving render s.state s.memory → {known still : ℕ} → still ≡ known
+      → GoesBack (lock_step_machines chip saving) (record { standing = standing_of render; made = known; table = table }) (record { standing = standing_of new; made = still; table = table }) i
   goes_back_to saves {render} serving i s read new is same =
       let can = saved_can_be_played saves serving i s read in
       goes_back (machines_lawful chip saving saves) serving.served i s read (standing_of new) (ap (λ r. r.samples) is ∙ loaded_samples chip saving render s.state s.memory can)
       (ap (λ r. (r.cpu, r.bus.machine)) is ∙ loaded_whole_is chip saving render s.state s.memory serving.handed_over) same
 
   -- it goes on to a sample
-  pub serving_on : IsLawfulSaving chip saving → {render : RenderState S} {made : ℕ} {table : TableState (PlayState V)} {at : ℕ} → IsServing chip saving render made table at → (n : ℕ) → at ≤ n → n ≤ most_frames
+  pub serving_on : IsLawfulSaving chip saving → {render : RenderState S} {made : ℕ} {table : TableState (PlayState V)} {at : ℕ} → IsServing chip saving render made table at → (n : ℕ) → at ≤ n → n ≤ max_frames
       → (new : RenderState S) → Arrives chip saving render new n → is_at_length new ≡ true → {more : ℕ} → more ≡ new.bus.chip_total → IsServing chip saving new more table n
   serving_on saves serving n later few new there done counted = record {
     served = served_on (machines_lawful chip saving saves) serving.served n later few (standing_of new) done there.samples there.whole;
@@ -83,12 +83,12 @@ module _ {S V : Type 0} {chip : ChipMeaning S} {saving : ChipSaving S V} where
   }
 
   pub goes_on_to : IsLawfulSaving chip saving → {render : RenderState S} {made : ℕ} {table : TableState (PlayState V)} {at : ℕ} → IsServing chip saving render made table at → (n : ℕ) (new : RenderState S) → Arrives chip saving render new n
-      → {told more : ℕ} → more ≡ count_after told (n - render.samples)
-      → GoesOn (lock_step_machines chip saving) (record { standing = standing_of render; made = told; table = table }) (record { standing = standing_of new; made = more; table = table }) render.samples n
+      → {known more : ℕ} → more ≡ count_after known (n - render.samples)
+      → GoesOn (lock_step_machines chip saving) (record { standing = standing_of render; made = known; table = table }) (record { standing = standing_of new; made = more; table = table }) render.samples n
   goes_on_to saves serving n new there counted = goes (machines_lawful chip saving saves) serving.served n (standing_of new) there.samples there.whole counted
 
   pub tune_kept_on : IsLawfulSaving chip saving → {render : RenderState S} {made : ℕ} {table : TableState (PlayState V)} {at : ℕ} → IsServing chip saving render made table at → (n : ℕ) (new : RenderState S) → Arrives chip saving render new n
-      → {told more : ℕ} → KeepsTune chip saving (record { standing = standing_of render; made = told; table = table }) (record { standing = standing_of new; made = more; table = table })
+      → {known more : ℕ} → KeepsTune chip saving (record { standing = standing_of render; made = known; table = table }) (record { standing = standing_of new; made = more; table = table })
   tune_kept_on saves serving n new there = tune_on (machines_lawful chip saving saves) serving.served n (standing_of new) there.whole
 
   frames_few : IsLawfulSaving chip saving → {render : RenderState S} {made : ℕ} {table : TableState (PlayState V)} {at : ℕ} → IsServing chip saving render made table at → (most : ℕ)
@@ -142,9 +142,9 @@ module _ {S V : Type 0} {chip : ChipMeaning S} {saving : ChipSaving S V} where
       ap (λ pages. with_checkpoint [] 0 pages) (pages_here serving memory is ∙ ap (pages_after (lock_step_machines chip saving) (opening_of chip saving render table)) serving.served.position)
 
   pub book_opened : IsLawfulSaving chip saving → {render : RenderState S} {made : ℕ} {table : TableState (PlayState V)} {w : Whole (Machine S)} {total : ℕ} → IsOpened chip render w total → IsServing chip saving render made table 0
-      → (memory : List ℕ) → memory ≡ render.bus.machine.memory → live_checkpoints table ≡ with_checkpoint [] 0 (pages_of memory) → {told : ℕ} → told ≡ 0
-      → book_of (record { standing = standing_of render; made = told; table = table }) ≡ opened_book (pages_after (lock_step_machines chip saving) (opening_of chip saving render table))
-  book_opened saves {render} {table = table} opened serving memory is live {told} none =
+      → (memory : List ℕ) → memory ≡ render.bus.machine.memory → live_checkpoints table ≡ with_checkpoint [] 0 (pages_of memory) → {known : ℕ} → known ≡ 0
+      → book_of (record { standing = standing_of render; made = known; table = table }) ≡ opened_book (pages_after (lock_step_machines chip saving) (opening_of chip saving render table))
+  book_opened saves {render} {table = table} opened serving memory is live {known} none =
       let make : ℕ → List Checkpoint → ℕ → CutBook = λ p l m. record { position = p; live = l; made = m } in
       let first = with_checkpoint [] 0 (pages_after (lock_step_machines chip saving) (opening_of chip saving render table) 0) in
-      ap (λ p. make p (live_checkpoints table) told) opened.samples ∙ ap (λ l. make 0 l told) (live ∙ live_opened serving memory is) ∙ ap (λ m. make 0 first m) none
+      ap (λ p. make p (live_checkpoints table) known) opened.samples ∙ ap (λ l. make 0 l known) (live ∙ live_opened serving memory is) ∙ ap (λ m. make 0 first m) none

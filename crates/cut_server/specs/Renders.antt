@@ -16,7 +16,7 @@ pub record HasHandedOver {S : Type 0} (render : RenderState S) : Type 0 where
   pub drained : drained_machine render.bus.machine ≡ render.bus.machine
   pub chip : render.bus.chip_sample ≡ render.samples
 
--- A server over a render: what it keeps. The number that it tells to have made is that of its render.
+-- A server over a render: what it keeps. The number that it reports to have made is that of its render.
 pub record IsServing {S V : Type 0} (chip : ChipMeaning S) (saving : ChipSaving S V) (render : RenderState S) (made : ℕ)
     (table : TableState (PlayState V)) (at : ℕ) : Type 0 where
   pub served : IsServed (lock_step_machines chip saving) (standing_of render) table at
@@ -24,7 +24,7 @@ pub record IsServing {S V : Type 0} (chip : ChipMeaning S) (saving : ChipSaving 
   pub counted : made ≡ render.bus.chip_total
 
 -- A render is on the way to the same length and machine. Its chip made as many samples as the number of its next one rose by.
-pub record IsOnWay {S : Type 0} (chip : ChipMeaning S) (old new : RenderState S) : Type 0 where
+pub record IsOnCandidate {S : Type 0} (chip : ChipMeaning S) (old new : RenderState S) : Type 0 where
   pub samples : new.samples ≡ old.samples
   pub whole : whole_at_length chip new ≡ whole_at_length chip old
   pub rises : old.bus.chip_sample ≤ new.bus.chip_sample
@@ -32,7 +32,7 @@ pub record IsOnWay {S : Type 0} (chip : ChipMeaning S) (old new : RenderState S)
 
 -- A render made a piece, and is nearer to its length.
 pub record GoesNearer {S : Type 0} (chip : ChipMeaning S) (old new : RenderState S) : Type 0 where
-  pub way : IsOnWay chip old new
+  pub way : IsOnCandidate chip old new
   pub later : is_at_length new ≡ false → old.bus.machine.clock < new.bus.machine.clock
   pub below : is_at_length new ≡ false → new.bus.machine.clock < CYCLES_PER_SAMPLE * new.samples
 

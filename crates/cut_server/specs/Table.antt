@@ -4,7 +4,7 @@ use Rattle.std.specs.List.{flat_map, sum_by, count_by}
 use Rattle.page_pool.specs.declared.slot.Slot.{Slot}
 use Rattle.page_pool.specs.Pool.{slot_at, free_slots}
 use Rattle.cut_server.specs.declared.table.LiveCheckpoint.{LiveCheckpoint}
-use Rattle.cut_form.specs.Checkpoints.{Checkpoint, most_checkpoints, page_count, fewest_pages, by_places, slots_used}
+use Rattle.cut_form.specs.Checkpoints.{Checkpoint, max_checkpoints, page_count, min_pages, by_places, slots_used}
 
 -- A pool of pages, and the live checkpoints in the order in which they were taken: of each its sample, what was saved of the
 -- machine, and the page of the pool for each page of its memory.
@@ -58,8 +58,8 @@ abbrev pub times_named : {S : Type 0} → List (LiveCheckpoint S) → (slot : �
 times_named checkpoints slot = sum_by (λ checkpoint. count_by (nat_eq slot) checkpoint.pages) checkpoints
 
 -- the most times that they name one
-abbrev pub most_named : ℕ
-most_named = fewest_pages * most_checkpoints
+abbrev pub max_named : ℕ
+max_named = min_pages * max_checkpoints
 
 -- each checkpoint has all pages of its memory
 abbrev pub AreWhole : {S : Type 0} → List (LiveCheckpoint S) → Type 0
@@ -89,7 +89,7 @@ StandTogether (checkpoint ∷ checkpoints) = AreApart checkpoint.pages × Leaves
 pub record AreKeptIn {S : Type 0} (pool : List Slot) (checkpoints : List (LiveCheckpoint S)) : Type 0 where
   pub owners : AreOwnersCounted (record { pool = pool; checkpoints = checkpoints })
   pub whole : AreWhole checkpoints
-  pub few : length checkpoints ≤ most_checkpoints
+  pub few : length checkpoints ≤ max_checkpoints
   pub runs : StandTogether checkpoints
   pub used : free_slots pool + slots_used (live_checkpoints (record { pool = pool; checkpoints = checkpoints })) ≡ length pool
 

@@ -1,9 +1,9 @@
 // The pages of a checkpoint: placed in the pool, and given back.
 ghost use Rattle.std.specs.Prelude.{◌≡◌, ℕ, ◌≤◌, false, ◌<◌, length, nat_eq, slice_get, Some};
 ghost use Rattle.std.specs.List.{count_by};
-ghost use Rattle.page_pool.specs.Pool.{most_owners, slot_at, free_slots};
+ghost use Rattle.page_pool.specs.Pool.{max_owners, slot_at, free_slots};
 ghost use Rattle.cut_form.specs.Checkpoints.{page_count, pages_of, own_slots};
-ghost use Rattle.cut_server.specs.Table.{most_named, AreApart};
+ghost use Rattle.cut_server.specs.Table.{max_named, AreApart};
 ghost use Rattle.cut_server.specs.Placing.{shared_slots, AreOwned, IsPlaced, ArePlaced, AreGiven};
 
 use aram_core::{Aram, MEMORY_SIZE};
@@ -26,7 +26,7 @@ pub(crate) fn own_slots(shared: &[bool; PAGE_COUNT]) -> u32
 /// A page of the pool for a page of a memory: that of the newest where it was found to hold the same bytes, and else a free one.
 fn place(pool: &mut PagePool, newest: &[Page], memory: &Aram, page: usize, is_shared: bool) -> Page
     requires within { page < page_count }
-    requires owned { AreOwned pool.old most_owners newest.now }
+    requires owned { AreOwned pool.old max_owners newest.now }
     requires shared { slice_get (shared_slots pool.old newest.now (pages_of memory.now)) page ≡ Some is_shared }
     requires free { is_shared ≡ false → 0 < free_slots pool.old }
     ensures placed { IsPlaced pool.old pool.new newest.now (pages_of memory.now) page result }
@@ -48,9 +48,9 @@ pub(crate) fn place_all(
     memory: &Aram,
     shared: &[bool; PAGE_COUNT],
 ) -> [Page; PAGE_COUNT]
-    requires owned { AreOwned pool.old most_named newest.now }
+    requires owned { AreOwned pool.old max_named newest.now }
     requires apart { AreApart newest.now }
-    requires few { (slot : ℕ) → (slot_at pool.old slot).owners ≤ most_named }
+    requires few { (slot : ℕ) → (slot_at pool.old slot).owners ≤ max_named }
     requires shared { shared.now ≡ shared_slots pool.old newest.now (pages_of memory.now) }
     requires free { own_slots shared.now ≤ free_slots pool.old }
     ensures placed { ArePlaced pool.old pool.new newest.now (pages_of memory.now) result }

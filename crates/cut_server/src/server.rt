@@ -1,14 +1,14 @@
 // The server of cuts.
 ghost use Rattle.std.specs.Prelude.{◌≡◌, ◌≢◌, ℕ, ◌+◌, ◌-◌, ◌<◌, ◌≤◌, true, false, length, IfOk, IfErr, OnOk, IsOk, ◌↔◌};
-ghost use Rattle.num_fix.specs.Limits.{most_frames};
-ghost use Rattle.page_pool.specs.Pool.{free_slots, most_pages};
+ghost use Rattle.num_fix.specs.Limits.{max_frames};
+ghost use Rattle.page_pool.specs.Pool.{free_slots, max_pages};
 ghost use Rattle.lock_step.specs.LockStep.{lock_step};
 ghost use Rattle.lock_step.specs.LockStepEmits.{lock_step_emits};
 ghost use Rattle.render_core.specs.Items.{run_frames};
 ghost use Rattle.render_core.specs.Opening.{opened_whole};
 ghost use Rattle.render_core.specs.Whole.{with_chip};
-ghost use Rattle.cut_form.specs.Checkpoints.{most_checkpoints, fewest_pages, stands_at};
-ghost use Rattle.cut_form.specs.CutBook.{opened_book, runs_from, after_seek, most_played, after_play, counted_book, with_live, without_one};
+ghost use Rattle.cut_form.specs.Checkpoints.{max_checkpoints, min_pages, stands_at};
+ghost use Rattle.cut_form.specs.CutBook.{opened_book, runs_from, after_seek, max_played, after_play, counted_book, with_live, without_one};
 ghost use Rattle.cut_form.specs.Marks.{room_made};
 ghost use Rattle.cut_form.specs.Slices.{slice_of};
 ghost use Rattle.cut_form.specs.GrowingFrames.{AreOfRun};
@@ -61,8 +61,8 @@ impl<C: Chip> CutServer<C> {
         chip: C,
         pages: u32,
     ) -> Result<CutServer<C>, OutOfMemory>
-        requires enough { fewest_pages ≤ pages }
-        requires few { pages ≤ most_pages }
+        requires enough { min_pages ≤ pages }
+        requires few { pages ≤ max_pages }
         requires sample { C.sample chip ≡ 0 }
         requires batches { C.batches chip ≡ 0 }
         requires total { C.total chip ≡ 0 }
@@ -87,7 +87,7 @@ impl<C: Chip> CutServer<C> {
     /// The position: the number of samples before it.
     pub fn at(&self) -> u32
         ensures position { result ≡ (book_of self.now).position }
-        ensures within { result ≤ most_frames }
+        ensures within { result ≤ max_frames }
         ensures run { AreOfRun (frames_to C.meaning C.saving self.now) }
     {
         self.position
@@ -103,7 +103,7 @@ impl<C: Chip> CutServer<C> {
     /// How many checkpoints are live.
     pub fn count(&self) -> u32
         ensures count { result ≡ length (book_of self.now).live }
-        ensures few { result ≤ most_checkpoints }
+        ensures few { result ≤ max_checkpoints }
     {
         self.table.len() as u32
     }
@@ -124,7 +124,7 @@ impl<C: Chip> CutServer<C> {
         self.render.total()
     }
 
-    /// The chip in hand. It made the samples that `work` tells, its next sample is that at the position, and its state is that of the run's
+    /// The chip in hand. It made the samples that `work` returns, its next sample is that at the position, and its state is that of the run's
     /// chip there.
     pub fn chip(&self) -> &C
         ensures made { C.total result.now ≡ (book_of self.now).made }
@@ -172,7 +172,7 @@ impl<C: Chip> CutServer<C> {
     /// Runs on to a sample.
     fn run(&mut self, at: u32)
         requires later { self.old.standing.samples ≤ at }
-        requires few { at ≤ most_frames }
+        requires few { at ≤ max_frames }
         ensures { GoesOn (lock_step_machines C.meaning C.saving) self.old self.new self.old.standing.samples at }
     {
         self.render.aim(at);
@@ -194,7 +194,7 @@ impl<C: Chip> CutServer<C> {
     /// Goes to a sample: from where it stands, unless that is after the sample, or before the last checkpoint up to it; then
     /// from this checkpoint. Where it stands at the sample already, it runs none.
     pub fn seek(&mut self, at: u32)
-        requires { at ≤ most_frames }
+        requires { at ≤ max_frames }
         ensures book { book_of self.new ≡ counted_book (after_seek (book_of self.old) at) }
         ensures tune { KeepsTune C.meaning C.saving self.old self.new }
     {
@@ -209,8 +209,8 @@ impl<C: Chip> CutServer<C> {
     /// Plays 1 to 64 frames: a slice of those that the run from the opening emits, whatever was called before.
     pub fn play(&mut self, most: u32, frames: &mut Frames)
         requires some { 1 ≤ most }
-        requires few { most ≤ most_played }
-        requires within { (book_of self.old).position + most ≤ most_frames }
+        requires few { most ≤ max_played }
+        requires within { (book_of self.old).position + most ≤ max_frames }
         ensures frames { frames.new ≡ slice_of (frames_to C.meaning C.saving self.old) (book_of self.old).position most }
         ensures book { book_of self.new ≡ counted_book (after_play (book_of self.old) most) }
         ensures tune { KeepsTune C.meaning C.saving self.old self.new }
@@ -224,7 +224,7 @@ impl<C: Chip> CutServer<C> {
     /// Plays as many frames as there are places: a slice of those that the run from the opening emits, whatever was called before. Nothing
     /// is pending at their end, so that the more are played at once the fewer batches are cut short.
     pub fn play_into(&mut self, frames: &mut [Frame])
-        requires within { (book_of self.old).position + length frames.old ≤ most_frames }
+        requires within { (book_of self.old).position + length frames.old ≤ max_frames }
         ensures frames { let start = (book_of self.old).position in
             frames.new ≡ slice_of (frames_to C.meaning C.saving self.old) start (length frames.old) }
         ensures book { book_of self.new ≡ counted_book (after_play (book_of self.old) (length frames.old)) }
@@ -239,7 +239,7 @@ impl<C: Chip> CutServer<C> {
     /// Takes a checkpoint at the position, unless it needs more slots than are free.
     pub fn checkpoint(&mut self) -> Result<(), NoPages>
         requires none_here { stands_at (book_of self.old).live (book_of self.old).position ≡ false }
-        requires few { length (book_of self.old).live < most_checkpoints }
+        requires few { length (book_of self.old).live < max_checkpoints }
         ensures taken { OnOk result (book_of self.new ≡ book_with_one_at C.meaning C.saving self.old) }
         ensures need { IfErr result (λ e. e.need ≡ slots_needed_at C.meaning C.saving self.old) }
         ensures free { IfErr result (λ e. e.free ≡ slots_left self.old) }
@@ -272,13 +272,13 @@ impl<C: Chip> CutServer<C> {
         }
     }
 
-    /// Gives checkpoints up until there is room for one at the position; tells how many.
+    /// Gives checkpoints up until there is room for one at the position; returns how many.
     fn make_room(&mut self) -> u32
         ensures room { let most = length (book_of self.old).live - 1 in
             let pages = pages_at C.meaning C.saving self.old (book_of self.old).position in
             let room = room_made most (slots_of self.old) pages (record { live = (book_of self.old).live; gave = 0 }) in
             record { live = (book_of self.new).live; gave = result } ≡ room }
-        ensures few { length (book_of self.new).live < most_checkpoints }
+        ensures few { length (book_of self.new).live < max_checkpoints }
         ensures book { book_of self.new ≡ with_live (book_of self.old) (book_of self.new).live }
         ensures tune { KeepsTune C.meaning C.saving self.old self.new }
     {

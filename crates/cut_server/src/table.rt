@@ -2,8 +2,8 @@
 ghost use Rattle.std.specs.Prelude.{◌≡◌, ◌==◌, ◌≤◌, ◌+◌, ◌-◌, ◌<◌, ◌++◌, ◌∷◌, [], false, length, slice_index, slice_get};
 ghost use Rattle.std.specs.Prelude.{IfOk, IfSome, IsNone, Some, ◌↔◌};
 ghost use Rattle.std.specs.List.{list_any, position, remove, remove_range};
-ghost use Rattle.page_pool.specs.Pool.{most_pages, free_slots};
-ghost use Rattle.cut_form.specs.Checkpoints.{page_count, most_checkpoints, fewest_pages, pages_of, with_checkpoint, without_checkpoint, without_entry, stands_at, nearest};
+ghost use Rattle.page_pool.specs.Pool.{max_pages, free_slots};
+ghost use Rattle.cut_form.specs.Checkpoints.{page_count, max_checkpoints, min_pages, pages_of, with_checkpoint, without_checkpoint, without_entry, stands_at, nearest};
 ghost use Rattle.cut_form.specs.Checkpoints.{shared_with_newest, own_slots, slots_needed, slots_free, has_room_for_one};
 ghost use Rattle.cut_form.specs.Marks.{room_made};
 ghost use Rattle.cut_server.specs.Table.{Saved, live_checkpoints, saved_of, samples_of, newest_from, AreOwnersCounted, IsSavedFirst};
@@ -12,7 +12,7 @@ ghost use Rattle.cut_server.specs.IsServed.{BeginAtOpening};
 use crate::OutOfMemory;
 use crate::pages::{give_all, own_slots, place_all};
 use aram_core::Aram;
-use cut_form::{MOST_CHECKPOINTS, PAGE_COUNT};
+use cut_form::{MAX_CHECKPOINTS, PAGE_COUNT};
 use fixed_vec::FixedVec;
 use page_pool::{Page, PagePool};
 use std::alloc::Global;
@@ -36,14 +36,14 @@ pub(crate) struct Table<S: Copy> {
 impl<S: Copy> Model for Table<S> {
     ghost use Rattle.std.specs.Prelude.{◌≤◌};
     ghost use Rattle.fixed_vec.specs.FixedVec.{elements_of, capacity_of};
-    ghost use Rattle.cut_form.specs.Checkpoints.{most_checkpoints};
+    ghost use Rattle.cut_form.specs.Checkpoints.{max_checkpoints};
     ghost use Rattle.cut_server.specs.Table.{TableState, AreKeptIn};
 
     ghost Value = { TableState S };
 
     ghost view = { λ t. record { pool = t.pool; checkpoints = elements_of t.checkpoints } };
 
-    ghost invariant = { λ t. (most_checkpoints ≤ capacity_of t.checkpoints) × AreKeptIn t.pool (elements_of t.checkpoints) };
+    ghost invariant = { λ t. (max_checkpoints ≤ capacity_of t.checkpoints) × AreKeptIn t.pool (elements_of t.checkpoints) };
 }
 
 /// The pages of the newest checkpoint, if there is one.
@@ -82,15 +82,15 @@ impl<S: Copy> Table<S> {
         state: S,
         memory: &Aram,
     ) -> Result<Table<S>, OutOfMemory>
-        requires enough { fewest_pages ≤ pages }
-        requires few { pages ≤ most_pages }
+        requires enough { min_pages ≤ pages }
+        requires few { pages ≤ max_pages }
         ensures saved { IfOk result (λ table. saved_of table ≡ record { sample = 0; state = state; memory = memory.now } ∷ []) }
         ensures live { IfOk result (λ table. live_checkpoints table ≡ with_checkpoint [] 0 (pages_of memory.now)) }
-        ensures free { IfOk result (λ table. free_slots table.pool + fewest_pages ≡ pages) }
+        ensures free { IfOk result (λ table. free_slots table.pool + min_pages ≡ pages) }
         ensures size { IfOk result (λ table. length table.pool ≡ pages) }
     {
         let pool = PagePool::new(alloc, pages)?;
-        let checkpoints = FixedVec::with_capacity(alloc, MOST_CHECKPOINTS as usize)?;
+        let checkpoints = FixedVec::with_capacity(alloc, MAX_CHECKPOINTS as usize)?;
         let mut table = Table { pool, checkpoints };
         let shared = table.shared_pages(memory);
         table.add(0, state, memory, &shared);
@@ -101,7 +101,7 @@ impl<S: Copy> Table<S> {
     pub(crate) fn len(&self) -> usize
         ensures live { result ≡ length (live_checkpoints self.now) }
         ensures samples { result ≡ length (samples_of self.now) }
-        ensures few { result ≤ most_checkpoints }
+        ensures few { result ≤ max_checkpoints }
     {
         self.checkpoints.len()
     }
@@ -156,7 +156,7 @@ impl<S: Copy> Table<S> {
         first_at(&self.checkpoints, sample)
     }
 
-    /// Copies the memory of one of them, and tells what else was saved.
+    /// Copies the memory of one of them, and shows what else was saved.
     pub(crate) fn load(&self, index: usize, memory: &mut Aram) -> S
         requires { index < length (samples_of self.now) }
         ensures { let sample = slice_index (samples_of self.now) index in
@@ -193,7 +193,7 @@ impl<S: Copy> Table<S> {
 
     /// Takes one more, which shares these pages with the newest.
     pub(crate) fn add(&mut self, sample: u32, state: S, memory: &Aram, shared: &[bool; PAGE_COUNT])
-        requires few { length (samples_of self.old) < most_checkpoints }
+        requires few { length (samples_of self.old) < max_checkpoints }
         requires shared { shared.now ≡ shared_with_newest (live_checkpoints self.old) (pages_of memory.now) }
         requires pages { own_slots shared.now ≤ free_slots self.old.pool }
         ensures saved { saved_of self.new ≡ saved_of self.old ++ record { sample = sample; state = state; memory = memory.now } ∷ [] }
@@ -245,7 +245,7 @@ impl<S: Copy> Table<S> {
 
     /// Drops all, and takes that of the opening anew.
     pub(crate) fn restart(&mut self, state: S, memory: &Aram)
-        requires { fewest_pages ≤ length self.old.pool }
+        requires { min_pages ≤ length self.old.pool }
         ensures saved { saved_of self.new ≡ record { sample = 0; state = state; memory = memory.now } ∷ [] }
         ensures live { live_checkpoints self.new ≡ with_checkpoint [] 0 (pages_of memory.now) }
         ensures size { length self.new.pool ≡ length self.old.pool }
@@ -260,7 +260,7 @@ impl<S: Copy> Table<S> {
     /// Where one is live, the pool has a page for each of its pages.
     pub(crate) fn has_pages(&self)
         requires { 0 < length (samples_of self.now) }
-        ensures { fewest_pages ≤ length self.now.pool }
+        ensures { min_pages ≤ length self.now.pool }
     {
         let _free = self.pool.free();
     }
@@ -269,15 +269,15 @@ impl<S: Copy> Table<S> {
     fn has_room_for_one(&self, memory: &Aram) -> bool
         ensures { result ≡ has_room_for_one (length self.now.pool) (pages_of memory.now) (live_checkpoints self.now) }
     {
-        self.len() < MOST_CHECKPOINTS as usize
+        self.len() < MAX_CHECKPOINTS as usize
             && own_slots(&self.shared_pages(memory)) <= self.free()
     }
 
-    /// Drops the second one, as long as there is one and no room for one of a memory; tells how many. Before each it compares
+    /// Drops the second one, as long as there is one and no room for one of a memory; returns how many. Before each it compares
     /// the memory's pages with those of the newest.
     pub(crate) fn make_room(&mut self, memory: &Aram) -> u32
         ensures saved { saved_of self.new ≡ remove_range (saved_of self.old) 1 (result + 1) }
-        ensures few { length (live_checkpoints self.new) < most_checkpoints }
+        ensures few { length (live_checkpoints self.new) < max_checkpoints }
         ensures room { let most = length (live_checkpoints self.old) - 1 in
             let room = room_made most (length self.old.pool) (pages_of memory.now) (record { live = live_checkpoints self.old; gave = 0 }) in
             record { live = live_checkpoints self.new; gave = result } ≡ room }

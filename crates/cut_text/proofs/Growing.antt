@@ -28,7 +28,7 @@ one_before old one (Ok more) = ap Ok (sym (append_assoc old (one ∷ []) more))
 one_before old one (Err wrong) = refl
 
 -- A reader of lines, one after another, with what the lines before them said: where the next line says something, that stands before what the later ones say;
--- where it says nothing, it is told as wrong.
+-- where it says nothing, it is reported as wrong.
 pub record IsReader {A : Type 0} (reads : List A → List (List ℕ) → Result (List A) ℕ) (next : List A → List ℕ → Option A) : Type 0 where
   pub goes_on : (old : List A) (line : List ℕ) (lines : List (List ℕ)) (one : A) → next old line ≡ Some one → reads old (line ∷ lines) ≡ said_before one (reads (old ++ one ∷ []) lines)
   pub stops : (old : List A) (line : List ℕ) (lines : List (List ℕ)) → next old line ≡ None → reads old (line ∷ lines) ≡ Err (length old + 1)
@@ -52,7 +52,7 @@ module _ {A : Type 0} {reads : List A → List (List ℕ) → Result (List A) �
       by None is more = absurd more
       by (Some one) is more = said_one old line lines one is ∙ ap (λ (list : List A). said_after reads list lines) (sym more)
 
-  -- a refusal of the next line tells what all lines say
+  -- a refusal of the next line shows what all lines say
   pub tells_wrong : (old : List A) (line : List ℕ) (lines : List (List ℕ)) (said : Result (List A) ℕ) (refusal : TextRefusal) →
       said ≡ said_after reads old (line ∷ lines) → IsWrongAfter old (next old line) refusal → Tells refusal said
   tells_wrong old line lines said (Wrong number) is wrong = is ∙ ap (list_before old) (reader.stops old line lines wrong.0) ∙ ap Err (sym wrong.1)

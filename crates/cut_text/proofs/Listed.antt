@@ -5,10 +5,10 @@ use Rattle.std.specs.List.{slice_split}
 use Rattle.std.proofs.lemmas.Grind.{common_steps}
 use Rattle.std.proofs.lemmas.List.Sums.{sum_by_push}
 use Rattle.std.proofs.lemmas.List.{length_push}
-use Rattle.num_fix.specs.Limits.{most_frames}
+use Rattle.num_fix.specs.Limits.{max_frames}
 use Rattle.cut_form.specs.declared.cut.Cut.{Cut}
 use Rattle.cut_form.specs.TextLines.{line_words, said_before}
-use Rattle.cut_form.specs.CutList.{most_cuts, cut_of_words, cuts_from}
+use Rattle.cut_form.specs.CutList.{max_cuts, cut_of_words, cuts_from}
 use Rattle.cut_form.specs.Slices.{cut_samples}
 use Rattle.text_form.specs.Parts.{parts_left}
 use Rattle.cut_text.specs.Cuts.{EndWithinHour, IsListed, fits_after, next_cut}
@@ -28,17 +28,17 @@ cuts_reader = record { goes_on = goes_on; stops = λ old line lines is. rw (is, 
     goes_on : (old : List Cut) (line : List ℕ) (lines : List (List ℕ)) (cut : Cut) → next_cut old line ≡ Some cut → cuts_after old (line ∷ lines) ≡ said_before cut (cuts_after (old ++ cut ∷ []) lines)
     goes_on old line lines cut is = rw (is, cuts_from, length_push old cut, samples_more old cut) refl
 
-within_more : (cuts : List Cut) (cut : Cut) → EndWithinHour cuts → cut.start + cut.count ≤ most_frames → EndWithinHour (cuts ++ cut ∷ [])
+within_more : (cuts : List Cut) (cut : Cut) → EndWithinHour cuts → cut.start + cut.count ≤ max_frames → EndWithinHour (cuts ++ cut ∷ [])
 within_more [] cut within here = (here, tt)
 within_more (first ∷ cuts) cut within here = (within.0, within_more cuts cut within.1 here)
 
-fits_end : (cuts : List Cut) (cut : Cut) → fits_after cuts cut ≡ true → cut.start + cut.count ≤ most_frames
+fits_end : (cuts : List Cut) (cut : Cut) → fits_after cuts cut ≡ true → cut.start + cut.count ≤ max_frames
 fits_end cuts cut fits = grind (arith, common_steps)
 
-fits_together : (cuts : List Cut) (cut : Cut) → fits_after cuts cut ≡ true → cut_samples cuts + cut.count ≤ most_frames
+fits_together : (cuts : List Cut) (cut : Cut) → fits_after cuts cut ≡ true → cut_samples cuts + cut.count ≤ max_frames
 fits_together cuts cut fits = grind (arith, common_steps)
 
-fits_in_number : (cuts : List Cut) (cut : Cut) → fits_after cuts cut ≡ true → length cuts + 1 ≤ most_cuts
+fits_in_number : (cuts : List Cut) (cut : Cut) → fits_after cuts cut ≡ true → length cuts + 1 ≤ max_cuts
 fits_in_number cuts cut fits = grind (arith, common_steps)
 
 listed_pushed : (cuts : List Cut) (total : ℕ) (cut : Cut) → IsListed cuts total → fits_after cuts cut ≡ true → IsListed (cuts ++ cut ∷ []) (total + cut.count)

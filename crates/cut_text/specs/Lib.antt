@@ -1,4 +1,4 @@
--- what a refusal tells, a list that grows line by line, and what its numbers are below
+-- what a refusal shows, a list that grows line by line, and what its numbers are below
 pub mod Reading
 -- a list of cuts
 pub mod Cuts

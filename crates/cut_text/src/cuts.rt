@@ -1,21 +1,21 @@
 // The list of cuts that a text says.
 ghost use Rattle.std.specs.Prelude.{◌≡◌, ◌+◌, ◌<◌, ◌≤◌, ◌∷◌, ◌++◌, [], Some, None, Ok, length, IfOk, IfErr, IfSome, OnOk, if◌then◌else◌};
-ghost use Rattle.num_fix.specs.Limits.{most_frames};
+ghost use Rattle.num_fix.specs.Limits.{max_frames};
 ghost use Rattle.cut_form.specs.TextLines.{line_words};
-ghost use Rattle.cut_form.specs.CutList.{most_cuts, cut_of_numbers, cut_of_words, cut_list};
+ghost use Rattle.cut_form.specs.CutList.{max_cuts, cut_of_numbers, cut_of_words, cut_list};
 ghost use Rattle.cut_form.specs.Slices.{cut_samples};
 ghost use Rattle.cut_text.specs.Cuts.{EndWithinHour, next_cut, fits_after};
 ghost use Rattle.cut_text.specs.Reading.{Tells, OneMore, IsWrongAfter, number_bound};
 
 use crate::lines::{first_line, number_in};
 use crate::{TextRefusal, add};
-use cut_form::{Cut, MOST_FRAMES};
+use cut_form::{Cut, MAX_FRAMES};
 use std::alloc::Global;
 use std::marker::Model;
 use text_form::first_part;
 
 /// The most cuts.
-const MOST_CUTS: usize = 1000;
+const MAX_CUTS: usize = 1000;
 
 /// Up to 1,000 cuts. Each ends within an hour, and together they are an hour at most.
 #[derive(Drop)]
@@ -50,7 +50,7 @@ impl CutList {
     /// The cuts in their order, each of which ends within an hour.
     pub fn as_slice(&self) -> &[Cut]
         ensures cuts { result.now ≡ self.now }
-        ensures few { length result.now ≤ most_cuts }
+        ensures few { length result.now ≤ max_cuts }
         ensures within { EndWithinHour result.now }
     {
         self.cuts.as_slice()
@@ -59,7 +59,7 @@ impl CutList {
     /// How many frames the cuts have together, an hour at most.
     pub fn samples(&self) -> u32
         ensures samples { result ≡ cut_samples self.now }
-        ensures few { result ≤ most_frames }
+        ensures few { result ≤ max_frames }
     {
         self.samples
     }
@@ -70,9 +70,9 @@ impl CutList {
         requires count { cut.count < number_bound }
         ensures { result ≡ fits_after self.now cut }
     {
-        cut.start + cut.count <= MOST_FRAMES
-            && self.samples + cut.count <= MOST_FRAMES
-            && self.cuts.len() < MOST_CUTS
+        cut.start + cut.count <= MAX_FRAMES
+            && self.samples + cut.count <= MAX_FRAMES
+            && self.cuts.len() < MAX_CUTS
     }
 
     /// Adds the cut of the next line.

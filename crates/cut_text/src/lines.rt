@@ -1,12 +1,12 @@
 // The lines of a text, the words of a line, and the numbers that words are.
 ghost use Rattle.std.specs.Prelude.{◌≡◌, ◌<◌, ◌∷◌, [], length, IfSome, IfNone};
-ghost use Rattle.cut_form.specs.TextLines.{text_lines, without_return, most_digits, number_of_word};
+ghost use Rattle.cut_form.specs.TextLines.{text_lines, without_return, max_digits, number_of_word};
 ghost use Rattle.cut_text.specs.Reading.{number_bound};
 
 use text_form::{decimal_value, first_part, is_number};
 
 /// The most digits of a number.
-const MOST_DIGITS: usize = 9;
+const MAX_DIGITS: usize = 9;
 
 /// A line without the carriage return at its end.
 fn without_return(line: &[u8]) -> &[u8]
@@ -39,7 +39,7 @@ pub fn number_in(word: &[u8]) -> Option<u32>
     ensures number { result ≡ number_of_word word.now }
     ensures small { IfSome result (λ number. number < number_bound) }
 {
-    if is_number(MOST_DIGITS, word) {
+    if is_number(MAX_DIGITS, word) {
         Some(decimal_value(word) as u32)
     } else {
         None

@@ -2,7 +2,7 @@
 ghost use Rattle.std.specs.Prelude.{◌≡◌, ◌∷◌, ◌==◌, ◌≤◌, [], Some, None, Ok, IfOk, IfErr, IfSome, codes, if◌then◌else◌};
 ghost use Rattle.std.specs.Str.{bytes_eq};
 ghost use Rattle.std.specs.List.{slice_split};
-ghost use Rattle.num_fix.specs.Limits.{most_frames};
+ghost use Rattle.num_fix.specs.Limits.{max_frames};
 ghost use Rattle.cut_form.specs.declared.script.ScriptLine.TheVariants as lines;
 ghost use Rattle.cut_form.specs.TextLines.{line_words};
 ghost use Rattle.cut_form.specs.Script.{line_of_words, script_lines};
@@ -11,7 +11,7 @@ ghost use Rattle.cut_text.specs.Playing.{IsWithinHour};
 
 use crate::lines::{first_line, number_in};
 use crate::{ScriptLines, TextRefusal};
-use cut_form::{MOST_FRAMES, ScriptLine};
+use cut_form::{MAX_FRAMES, ScriptLine};
 use std::alloc::Global;
 use text_form::first_part;
 
@@ -31,7 +31,7 @@ fn lone_word_line(name: &[u8]) -> Option<ScriptLine>
 
 /// The line of a name and a number.
 fn named_line(name: &[u8], number: u32) -> Option<ScriptLine>
-    requires { number ≤ most_frames }
+    requires { number ≤ max_frames }
     ensures line { result ≡ if bytes_eq name.now (codes "seek") then Some (lines.Seek number)
         else if bytes_eq name.now (codes "play") then Some (lines.Play number)
         else if bytes_eq name.now (codes "drop") then Some (lines.Drop number) else None }
@@ -54,7 +54,7 @@ fn numbered_line(name: &[u8], word: &[u8]) -> Option<ScriptLine>
     ensures within { IfSome result (λ line. IsWithinHour line) }
 {
     match number_in(word) {
-        Some(number) if number <= MOST_FRAMES => named_line(name, number),
+        Some(number) if number <= MAX_FRAMES => named_line(name, number),
         _ => None,
     }
 }

@@ -5,7 +5,7 @@ use Rattle.std.specs.Io.KnownBytes.{Keeps, WriteAppends}
 use Rattle.snd_host.specs.Host.{IsOpen}
 use Rattle.snd_host.specs.Calls.{finish_call, finished, not_finished}
 use Rattle.disk_host.specs.Texts.{Texts}
-use Rattle.disk_host.specs.Created.{most_created, is_ended, flags_of, told_at}
+use Rattle.disk_host.specs.Created.{max_created, is_ended, flags_of, known_at}
 use Rattle.disk_host.specs.Held.{Tells, output_number, KeepsOutputs, KeepsOutputsBut, held_by, WritesOn, HoldsStay}
 use Rattle.disk_host.specs.declared.host.Created.{Created}
 use Rattle.disk_host.specs.declared.host.DiskHost.{DiskHost}
@@ -20,12 +20,12 @@ open_place flags (suc zero) is_open not_report not_note = absurd (not_note refl)
 open_place flags (suc (suc place)) is_open not_report not_note = rw (less place) is_open
 
 module _ {D F : Type 0} (number : F → ℕ) where
-  pub number_at : (host : DiskHost D F) (file : ℕ) → file ≢ 0 → file ≢ 1 → output_number number host file ≡ told_at number 0 host.created.items (file - 2)
+  pub number_at : (host : DiskHost D F) (file : ℕ) → file ≢ 0 → file ≢ 1 → output_number number host file ≡ known_at number 0 host.created.items (file - 2)
   number_at host zero not_report not_note = absurd (not_report refl)
   number_at host (suc zero) not_report not_note = absurd (not_note refl)
   number_at host (suc (suc place)) not_report not_note = rw (less place) refl
 
-  pub outputs_kept : (old new : DiskHost D F) → ((place : ℕ) → told_at number 0 new.created.items place ≡ told_at number 0 old.created.items place) → KeepsOutputs number old new
+  pub outputs_kept : (old new : DiskHost D F) → ((place : ℕ) → known_at number 0 new.created.items place ≡ known_at number 0 old.created.items place) → KeepsOutputs number old new
   outputs_kept old new same zero = refl
   outputs_kept old new same (suc zero) = refl
   outputs_kept old new same (suc (suc place)) = same place
@@ -35,25 +35,25 @@ module _ {D F : Type 0} (number : F → ℕ) where
       output_number number host (n + 2) ≡ number output.file
   number_last host places output n is long =
       let place : n + 2 - 2 ≡ length places = omega (arith, long) in
-      number_at host (n + 2) (λ none. omega (arith, none)) (λ one. omega (arith, one)) ∙ ap (λ (p : ℕ). told_at number 0 host.created.items p) place
-      ∙ ap (λ (l : List (Option (Created F))). told_at number 0 l (length places)) is ∙ told_last number 0 places output
+      number_at host (n + 2) (λ none. omega (arith, none)) (λ one. omega (arith, one)) ∙ ap (λ (p : ℕ). known_at number 0 host.created.items p) place
+      ∙ ap (λ (l : List (Option (Created F))). known_at number 0 l (length places)) is ∙ told_last number 0 places output
 
   pub outputs_but : (old new : DiskHost D F) (slot : Option (Created F)) → new.created.items ≡ old.created.items ++ slot ∷ [] →
       KeepsOutputsBut (length (flags_of old.created.items) + 2) number old new
   outputs_but old new slot is zero apart = refl
   outputs_but old new slot is (suc zero) apart = refl
   outputs_but old new slot is (suc (suc place)) apart =
-      ap (λ (l : List (Option (Created F))). told_at number 0 l place) is
+      ap (λ (l : List (Option (Created F))). known_at number 0 l place) is
       ∙ told_before number 0 old.created.items slot place (λ same. apart (omega (arith, same, length-map old.created.items is_ended)))
 
 pub writes_place : {D F X : Type 0} (files : Tells F) (texts : D → Texts) (piece : List ℕ) (old new : DiskHost D F) (result : Result ℕ X) (file place : ℕ) → file ≢ 0 → file ≢ 1 →
-    place ≡ file - 2 → WriteAppends (told_at files None old.created.items place) (told_at files None new.created.items place) result piece →
-    ((other : ℕ) → other ≢ place → told_at files None new.created.items other ≡ told_at files None old.created.items other) →
+    place ≡ file - 2 → WriteAppends (known_at files None old.created.items place) (known_at files None new.created.items place) result piece →
+    ((other : ℕ) → other ≢ place → known_at files None new.created.items other ≡ known_at files None old.created.items other) →
     texts new.disk ≡ texts old.disk → WritesOn files texts file piece old new result
 writes_place files texts piece old new result zero place not_report not_note at wrote others same = absurd (not_report refl)
 writes_place files texts piece old new result (suc zero) place not_report not_note at wrote others same = absurd (not_note refl)
 writes_place {D} {F} files texts piece old new result (suc (suc p)) place not_report not_note at wrote others same = record {
-  added = subst (λ (n : ℕ). WriteAppends (told_at files None old.created.items n) (told_at files None new.created.items n) result piece) (at ∙ less p) wrote;
+  added = subst (λ (n : ℕ). WriteAppends (known_at files None old.created.items n) (known_at files None new.created.items n) result piece) (at ∙ less p) wrote;
   others = by;
 }
   where
@@ -74,7 +74,7 @@ holds_stay files texts old new slot is same (suc zero) = keeps_equal _ _ (ap (λ
 holds_stay files texts old new slot is same (suc (suc place)) = rw (is) (keeps_before files old.created.items slot place)
 
 -- a list of places that isn't full
-pub not_full : {F : Type 0} (places : List (Option (Created F))) (full : Bool) → length places ≤ 256 → full ≡ (length places == 256) → full ≡ false → most_created ≤ length (flags_of places) → ⊥
+pub not_full : {F : Type 0} (places : List (Option (Created F))) (full : Bool) → length places ≤ 256 → full ≡ (length places == 256) → full ≡ false → max_created ≤ length (flags_of places) → ⊥
 not_full places full few is not_yet most =
     let all : length places ≡ 256 = omega (arith, few, most, length-map places is_ended) in
     let both : true ≡ false = sym (is ∙ ap (λ (n : ℕ). n == 256) all) ∙ not_yet in

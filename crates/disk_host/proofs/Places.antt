@@ -3,7 +3,7 @@ use Rattle.std.proofs.Common.{◌≡◌, ◌≢◌, ◌<◌, ℕ, zero, suc, Boo
 use Rattle.std.proofs.lemmas.Option.{get_or_from_slice_get, slice_get-get_or}
 use Rattle.std.proofs.lemmas.List.{map-set, set-get_or}
 use Rattle.std.specs.Io.KnownBytes.{Keeps}
-use Rattle.disk_host.specs.Created.{is_ended, flags_of, told_or, told_at}
+use Rattle.disk_host.specs.Created.{is_ended, flags_of, known_or, known_at}
 use Rattle.disk_host.specs.declared.host.Created.{Created}
 
 -- the output that was taken from its place stood there
@@ -18,7 +18,7 @@ flags_set places place output = map-set is_ended places place (Some output)
 pub flags_kept : {F : Type 0} (places : List (Option (Created F))) (place : ℕ) (before after : Created F) → slice_get places place ≡ Some (Some before) → after.ended ≡ before.ended →
     flags_of (set places place (Some after)) ≡ flags_of places
 flags_kept [] place before after is same = refl
-flags_kept (p ∷ places) zero before after is same = ap (λ (b : Bool). b ∷ flags_of places) (same ∙ sym (ap (told_or is_ended true) is))
+flags_kept (p ∷ places) zero before after is same = ap (λ (b : Bool). b ∷ flags_of places) (same ∙ sym (ap (known_or is_ended true) is))
 flags_kept (p ∷ places) (suc place) before after is same = ap (λ (l : List Bool). is_ended p ∷ l) (flags_kept places place before after is same)
 
 -- a flag that isn't set is not set once more
@@ -27,20 +27,20 @@ unset_again flags place ended open_yet is =
     ap (λ (b : Bool). set flags place b) (is ∙ sym (get_or_from_slice_get flags place false false open_yet)) ∙ set-get_or flags place false
 
 module _ {F T : Type 0} (tells : F → T) (otherwise : T) where
-  abbrev told : Option (Option (Created F)) → T
-  told = told_or (told_or (λ output. tells output.file) otherwise) otherwise
+  abbrev known : Option (Option (Created F)) → T
+  known = known_or (known_or (λ output. tells output.file) otherwise) otherwise
 
-  pub told_here : (places : List (Option (Created F))) (place : ℕ) (output : Created F) → slice_get places place ≡ Some (Some output) → told_at tells otherwise places place ≡ tells output.file
-  told_here places place output is = ap told is
+  pub told_here : (places : List (Option (Created F))) (place : ℕ) (output : Created F) → slice_get places place ≡ Some (Some output) → known_at tells otherwise places place ≡ tells output.file
+  told_here places place output is = ap known is
 
   pub told_after : (places : List (Option (Created F))) (place : ℕ) (before after : Created F) → slice_get places place ≡ Some (Some before) →
-      told_at tells otherwise (set places place (Some after)) place ≡ tells after.file
+      known_at tells otherwise (set places place (Some after)) place ≡ tells after.file
   told_after [] place before after is = absurd (cc)
   told_after (p ∷ places) zero before after is = refl
   told_after (p ∷ places) (suc place) before after is = told_after places place before after is
 
   pub told_other : (places : List (Option (Created F))) (place : ℕ) (slot : Option (Created F)) (other : ℕ) → other ≢ place →
-      told_at tells otherwise (set places place slot) other ≡ told_at tells otherwise places other
+      known_at tells otherwise (set places place slot) other ≡ known_at tells otherwise places other
   told_other [] place slot other apart = refl
   told_other (p ∷ places) zero slot zero apart = absurd (apart refl)
   told_other (p ∷ places) zero slot (suc other) apart = refl
@@ -48,18 +48,18 @@ module _ {F T : Type 0} (tells : F → T) (otherwise : T) where
   told_other (p ∷ places) (suc place) slot (suc other) apart = told_other places place slot other (λ same. apart (ap suc same))
 
   pub told_kept : (places : List (Option (Created F))) (place : ℕ) (before after : Created F) → slice_get places place ≡ Some (Some before) → tells after.file ≡ tells before.file → (other : ℕ) →
-      told_at tells otherwise (set places place (Some after)) other ≡ told_at tells otherwise places other
+      known_at tells otherwise (set places place (Some after)) other ≡ known_at tells otherwise places other
   told_kept [] place before after is same other = refl
-  told_kept (p ∷ places) zero before after is same zero = same ∙ sym (ap told is)
+  told_kept (p ∷ places) zero before after is same zero = same ∙ sym (ap known is)
   told_kept (p ∷ places) zero before after is same (suc other) = refl
   told_kept (p ∷ places) (suc place) before after is same zero = refl
   told_kept (p ∷ places) (suc place) before after is same (suc other) = told_kept places place before after is same other
 
-  pub told_last : (places : List (Option (Created F))) (output : Created F) → told_at tells otherwise (places ++ Some output ∷ []) (length places) ≡ tells output.file
+  pub told_last : (places : List (Option (Created F))) (output : Created F) → known_at tells otherwise (places ++ Some output ∷ []) (length places) ≡ tells output.file
   told_last [] output = refl
   told_last (p ∷ places) output = told_last places output
 
-  pub told_before : (places : List (Option (Created F))) (slot : Option (Created F)) (other : ℕ) → other ≢ length places → told_at tells otherwise (places ++ slot ∷ []) other ≡ told_at tells otherwise places other
+  pub told_before : (places : List (Option (Created F))) (slot : Option (Created F)) (other : ℕ) → other ≢ length places → known_at tells otherwise (places ++ slot ∷ []) other ≡ known_at tells otherwise places other
   told_before [] slot zero apart = absurd (apart refl)
   told_before [] slot (suc other) apart = refl
   told_before (p ∷ places) slot zero apart = refl
@@ -71,15 +71,15 @@ keeps_same (Some bytes) = refl
 
 pub keeps_at : {F : Type 0} (held : F → Option (List ℕ)) (places : List (Option (Created F))) (place : ℕ) (before after : Created F) →
     slice_get places place ≡ Some (Some before) → Keeps (held before.file) (held after.file) → (other : ℕ) →
-    Keeps (told_at held None places other) (told_at held None (set places place (Some after)) other)
+    Keeps (known_at held None places other) (known_at held None (set places place (Some after)) other)
 keeps_at held [] place before after is keeps other = absurd (cc)
 keeps_at held (p ∷ places) zero before after is keeps zero = rw (told_here held None (p ∷ places) zero before is) keeps
-keeps_at held (p ∷ places) zero before after is keeps (suc other) = keeps_same (told_at held None places other)
-keeps_at held (p ∷ places) (suc place) before after is keeps zero = keeps_same (told_at held None (p ∷ places) zero)
+keeps_at held (p ∷ places) zero before after is keeps (suc other) = keeps_same (known_at held None places other)
+keeps_at held (p ∷ places) (suc place) before after is keeps zero = keeps_same (known_at held None (p ∷ places) zero)
 keeps_at held (p ∷ places) (suc place) before after is keeps (suc other) = keeps_at held places place before after is keeps other
 
 pub keeps_before : {F : Type 0} (held : F → Option (List ℕ)) (places : List (Option (Created F))) (slot : Option (Created F)) (other : ℕ) →
-    Keeps (told_at held None places other) (told_at held None (places ++ slot ∷ []) other)
+    Keeps (known_at held None places other) (known_at held None (places ++ slot ∷ []) other)
 keeps_before held [] slot other = tt
-keeps_before held (p ∷ places) slot zero = keeps_same (told_at held None (p ∷ places) zero)
+keeps_before held (p ∷ places) slot zero = keeps_same (known_at held None (p ∷ places) zero)
 keeps_before held (p ∷ places) slot (suc other) = keeps_before held places slot other

@@ -3,8 +3,8 @@ use Rattle.std.specs.Prelude.{ℕ, Bool, true, List, Option, Some, None, map, sl
 use Rattle.disk_host.specs.declared.host.Created.{Created}
 
 -- how many outputs a host of real files can create
-abbrev pub most_created : ℕ
-most_created = 256
+abbrev pub max_created : ℕ
+max_created = 256
 
 -- An output was ended; where there is none, none can be written.
 abbrev pub is_ended : {F : Type 0} → Option (Created F) → Bool
@@ -15,11 +15,11 @@ is_ended (Some output) = output.ended
 abbrev pub flags_of : {F : Type 0} → List (Option (Created F)) → List Bool
 flags_of places = map is_ended places
 
--- what is told of a file: something else where there is none
-abbrev pub told_or : {F T : Type 0} → (tells : F → T) → (otherwise : T) → Option F → T
-told_or tells otherwise None = otherwise
-told_or tells otherwise (Some file) = tells file
+-- what is known of a file: something else where there is none
+abbrev pub known_or : {F T : Type 0} → (tells : F → T) → (otherwise : T) → Option F → T
+known_or tells otherwise None = otherwise
+known_or tells otherwise (Some file) = tells file
 
--- what is told of the output at a place
-abbrev pub told_at : {F T : Type 0} → (tells : F → T) → (otherwise : T) → List (Option (Created F)) → (place : ℕ) → T
-told_at tells otherwise places place = told_or (told_or (λ output. tells output.file) otherwise) otherwise (slice_get places place)
+-- what is known of the output at a place
+abbrev pub known_at : {F T : Type 0} → (tells : F → T) → (otherwise : T) → List (Option (Created F)) → (place : ℕ) → T
+known_at tells otherwise places place = known_or (known_or (λ output. tells output.file) otherwise) otherwise (slice_get places place)

@@ -7,11 +7,11 @@ use Rattle.snd_host.specs.Host.{HostState}
 use Rattle.snd_host.specs.Calls.{Call}
 use Rattle.disk_host.specs.Texts.{Texts}
 use Rattle.disk_host.specs.Untold.{untold_state}
-use Rattle.disk_host.specs.Created.{flags_of, told_or, told_at}
+use Rattle.disk_host.specs.Created.{flags_of, known_or, known_at}
 use Rattle.disk_host.specs.declared.host.DiskHost.{DiskHost}
 
 -- the host at a moment: the calls that were made of it, its current input, which created outputs have ended, its counts of faults, and whether its last
--- call failed; it tells no bytes and no rooms
+-- call failed; it shows no bytes and no rooms
 abbrev pub disk_state : {D F : Type 0} → DiskHost D F → HostState
 disk_state host =
     untold_state host.log.calls (option_map (λ _. host.newest) host.input) (flags_of host.created.items) host.in_faults host.note_faults host.out_faults host.failed_last
@@ -22,13 +22,13 @@ disk_of host = host.disk
 
 -- the number of the file that is the current input; 0 where there is none
 abbrev pub input_number : {D F : Type 0} → (number : F → ℕ) → DiskHost D F → ℕ
-input_number number host = told_or number 0 host.input
+input_number number host = known_or number 0 host.input
 
 -- The number of the file that is the output of a number of the host's. Report and complaint have the same number for both; where there is none, it is 0.
 abbrev pub output_number : {D F : Type 0} → (number : F → ℕ) → DiskHost D F → (output : ℕ) → ℕ
 output_number number host zero = 0
 output_number number host (suc zero) = 1
-output_number number host (suc (suc place)) = told_at number 0 host.created.items place
+output_number number host (suc (suc place)) = known_at number 0 host.created.items place
 
 -- The output of each number is the file that it was, but for that of this one.
 abbrev pub KeepsOutputsBut : {D F : Type 0} → (but : ℕ) → (number : F → ℕ) → (old new : DiskHost D F) → Type 0
@@ -51,19 +51,19 @@ pub record FailsUnasked {D F T E : Type 0} (calls : D → List Call) (old new : 
   pub failed : IsErr result
   pub unasked : calls new.disk ≡ calls old.disk
 
--- how a file tells the bytes that it holds, or those that it has left, where it knows them
+-- how a file shows the bytes that it holds, or those that it has left, where it knows them
 abbrev pub Tells : Type 0 → Type 0
 Tells F = F → Option (List ℕ)
 
--- what is told of the output of a number: 0 is the report, 1 the complaint
+-- what is known of the output of a number: 0 is the report, 1 the complaint
 abbrev pub held_by : {D F : Type 0} → Tells F → (D → Texts) → DiskHost D F → (number : ℕ) → Option (List ℕ)
 held_by files texts host zero = (texts host.disk).report
 held_by files texts host (suc zero) = (texts host.disk).complaint
-held_by files texts host (suc (suc place)) = told_at files None host.created.items place
+held_by files texts host (suc (suc place)) = known_at files None host.created.items place
 
 -- The bytes that were read are the next ones of the current input, and none come only at its end.
 abbrev pub ReadsOn : {D F X : Type 0} → Tells F → (buf : List ℕ) → (old new : DiskHost D F) → Result ℕ X → Type 0
-ReadsOn left buf old new result = ReadConsumes (told_or left None old.input) (told_or left None new.input) result buf
+ReadsOn left buf old new result = ReadConsumes (known_or left None old.input) (known_or left None new.input) result buf
 
 -- The bytes that were taken of a piece come after those that the output of a number held, and every other output holds what it held.
 pub record WritesOn {D F X : Type 0} (files : Tells F) (texts : D → Texts) (number : ℕ) (piece : List ℕ)
@@ -78,4 +78,4 @@ HoldsStay files texts old new =
 
 -- What is left of the current input stays: none of its bytes is eaten.
 abbrev pub InputStays : {D F : Type 0} → Tells F → (old new : DiskHost D F) → Type 0
-InputStays left old new = Keeps (told_or left None old.input) (told_or left None new.input)
+InputStays left old new = Keeps (known_or left None old.input) (known_or left None new.input)

@@ -4,5 +4,5 @@ pub mod Created
 pub mod Held
 -- what contracts see of the report and of the complaint of a disk
 pub mod Texts
--- a host that tells no contents
+-- a host that shows no contents
 pub mod Untold

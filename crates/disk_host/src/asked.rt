@@ -8,7 +8,7 @@ use snd_host::Failed;
 
 /// Where files are read and written by name, with a report and a complaint.
 ///
-/// It tells each call, with its name or its file and its bytes, and whether it failed. A file is reached by these calls alone.
+/// It shows each call, with its name or its file and its bytes, and whether it failed. A file is reached by these calls alone.
 pub trait Disk {
     /// A file that was opened or created.
     type File: Drop;
@@ -16,7 +16,7 @@ pub trait Disk {
     /// The calls that were made, the newest first. The report has the number 0 in them, the complaint 1.
     ghost calls: { Self → List Call };
 
-    /// The number of a file, which the call that made it told.
+    /// The number of a file, which the call that made it returned.
     ghost number: { Self.File → ℕ };
 
     /// The bytes that the report and the complaint hold, where they know them.

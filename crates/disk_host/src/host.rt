@@ -1,8 +1,8 @@
-// The host of real files: it tells no contents, and passes on what a file knows of its bytes.
+// The host of real files: it shows no contents, and passes on what a file knows of its bytes.
 ghost use Rattle.std.specs.Prelude.{◌≡◌, ◌≢◌, ◌<◌, ℕ, ◌≤◌, ◌∷◌, ◌++◌, length, IfOk, drop, None, Some, [], false, is_ok, slice_get, slice_set};
 ghost use Rattle.snd_host.specs.Calls.{open_call, read_call, create_call, write_call, finish_call};
 ghost use Rattle.disk_host.specs.Untold.{untold_state};
-ghost use Rattle.disk_host.specs.Created.{flags_of, told_at};
+ghost use Rattle.disk_host.specs.Created.{flags_of, known_at};
 ghost use Rattle.disk_host.specs.Held.{held_by};
 ghost use Rattle.std.specs.Io.KnownBytes.{Keeps, WriteAppends};
 
@@ -13,7 +13,7 @@ use snd_host::{
 };
 
 /// How many outputs a host of real files can create: a tune has 256 samples at most, and a rip makes a file of each.
-const MOST_CREATED: usize = 256;
+const MAX_CREATED: usize = 256;
 
 /// An output that was created.
 #[derive(Drop)]
@@ -23,7 +23,7 @@ struct Created<F> {
 }
 
 /// The created outputs, each at its place.
-type Places<F> = ArrayVec<Option<Created<F>>, MOST_CREATED>;
+type Places<F> = ArrayVec<Option<Created<F>>, MAX_CREATED>;
 
 /// A host over a disk. It asks the disk once in each call, and fails where the disk does.
 #[derive(Drop)]
@@ -74,10 +74,10 @@ fn write_created<D: Disk>(
     ensures within { IfOk result (λ count. count ≤ length piece.now) }
     ensures progress { IfOk result (λ count. 0 < length piece.now → 0 < count) }
     ensures flags { flags_of created.new.items ≡ flags_of created.old.items }
-    ensures bytes { WriteAppends (told_at D.held None created.old.items place) (told_at D.held None created.new.items place) result piece.now }
-    ensures others { (other : ℕ) → other ≢ place → told_at D.held None created.new.items other ≡ told_at D.held None created.old.items other }
-    ensures files { (other : ℕ) → told_at D.number 0 created.new.items other ≡ told_at D.number 0 created.old.items other }
-    ensures asked { D.calls disk.new ≡ write_call (told_at D.number 0 created.old.items place) piece.now result ∷ D.calls disk.old }
+    ensures bytes { WriteAppends (known_at D.held None created.old.items place) (known_at D.held None created.new.items place) result piece.now }
+    ensures others { (other : ℕ) → other ≢ place → known_at D.held None created.new.items other ≡ known_at D.held None created.old.items other }
+    ensures files { (other : ℕ) → known_at D.number 0 created.new.items other ≡ known_at D.number 0 created.old.items other }
+    ensures asked { D.calls disk.new ≡ write_call (known_at D.number 0 created.old.items place) piece.now result ∷ D.calls disk.old }
     ensures texts { D.texts disk.new ≡ D.texts disk.old }
 {
     let Some(slot) = created.get_mut(place) else {
@@ -112,9 +112,9 @@ fn end_created<D: Disk>(
 ) -> Result<(), Failed>
     requires { slice_get (flags_of created.old.items) place ≡ Some false }
     ensures flags { flags_of created.new.items ≡ slice_set (flags_of created.old.items) place (is_ok result) }
-    ensures bytes { (other : ℕ) → Keeps (told_at D.held None created.old.items other) (told_at D.held None created.new.items other) }
-    ensures files { (other : ℕ) → told_at D.number 0 created.new.items other ≡ told_at D.number 0 created.old.items other }
-    ensures asked { D.calls disk.new ≡ finish_call (told_at D.number 0 created.old.items place) result ∷ D.calls disk.old }
+    ensures bytes { (other : ℕ) → Keeps (known_at D.held None created.old.items other) (known_at D.held None created.new.items other) }
+    ensures files { (other : ℕ) → known_at D.number 0 created.new.items other ≡ known_at D.number 0 created.old.items other }
+    ensures asked { D.calls disk.new ≡ finish_call (known_at D.number 0 created.old.items place) result ∷ D.calls disk.old }
     ensures texts { D.texts disk.new ≡ D.texts disk.old }
 {
     let Some(slot) = created.get_mut(place) else {
@@ -131,20 +131,20 @@ fn end_created<D: Disk>(
 impl<D: Disk + Drop> Host for DiskHost<D> {
     ghost use Rattle.std.specs.Prelude.{◌+◌, ◌-◌, ◌++◌, ◌∷◌, Some, IsSome, IsOk, OnOk, OnErr, true, is_err, take, slice_get, slice_index};
     ghost use Rattle.snd_host.specs.OpenedInputs.{Opens, ReadsMore};
-    ghost use Rattle.snd_host.specs.Host.{IfTold, HasCause, CountsWrite, EndsByWrite, IsOpen, ChangesInputs, ChangesOutputs, KeepsRooms, Writes, most_outputs, longest_output_name};
-    ghost use Rattle.disk_host.specs.Created.{most_created};
+    ghost use Rattle.snd_host.specs.Host.{IfKnown, HasCause, CountsWrite, EndsByWrite, IsOpen, ChangesInputs, ChangesOutputs, KeepsRooms, Writes, max_outputs, longest_output_name};
+    ghost use Rattle.disk_host.specs.Created.{max_created};
     ghost use Rattle.disk_host.specs.Held.{disk_state, input_number, output_number, KeepsInput, KeepsOutputs, KeepsOutputsBut, AsksOnce, FailsUnasked, ReadsOn, WritesOn, HoldsStay, InputStays};
 
     ghost state = { disk_state };
 
-    ghost tells_each = { λ host given told. absurd (Prim.cc) };
+    ghost tells_each = { λ host given known. absurd (Prim.cc) };
 
     fn open_in(&mut self, name: &str) -> Result<InFile, Failed>
         ensures current { IfOk result (λ file. (disk_state self.new).current ≡ Some file.0) }
         ensures fresh { IfOk result (λ file. (disk_state self.old).current ≢ Some file.0) }
         ensures none_current { OnErr result ((disk_state self.new).current ≡ None) }
-        ensures there { OnOk result (IfTold (disk_state self.old).holds (λ files. IsSome (files name.now))) }
-        ensures left { OnOk result (IfTold (disk_state self.old).holds (λ files. (disk_state self.new).left ≡ files name.now)) }
+        ensures there { OnOk result (IfKnown (disk_state self.old).holds (λ files. IsSome (files name.now))) }
+        ensures left { OnOk result (IfKnown (disk_state self.old).holds (λ files. (disk_state self.new).left ≡ files name.now)) }
         ensures unread { OnErr result ((disk_state self.new).left ≡ (disk_state self.old).left) }
         ensures opened { OnOk result (Opens (record { name = name.now; read = 0 } ∷ []) (disk_state self.old) (disk_state self.new)) }
         ensures not_opened { OnErr result ((disk_state self.new).opened ≡ (disk_state self.old).opened) }
@@ -154,7 +154,7 @@ impl<D: Disk + Drop> Host for DiskHost<D> {
         ensures made { (disk_state self.new).calls ≡ open_call (λ file. file.0) name.now result ∷ (disk_state self.old).calls }
         // A steady host fails only at a name that is not there.
         ensures steady { IsSome (disk_state self.old).steady →
-            IfTold (disk_state self.old).holds (λ files. IsSome (files name.now) → IsOk result) }
+            IfKnown (disk_state self.old).holds (λ files. IsSome (files name.now) → IsOk result) }
         // No output changes.
         ensures held { HoldsStay D.held D.texts self.old self.new }
         // It opens the file of this name, and the current input is then the file that this call of the disk made.
@@ -180,11 +180,11 @@ impl<D: Disk + Drop> Host for DiskHost<D> {
         ensures within { IfOk result (λ count. count ≤ length buf.old) }
         ensures after { IfOk result (λ count. drop count buf.new ≡ drop count buf.old) }
         ensures front { IfOk result (λ count.
-            IfTold (disk_state self.old).left (λ rest. take count buf.new ≡ take count rest)) }
+            IfKnown (disk_state self.old).left (λ rest. take count buf.new ≡ take count rest)) }
         ensures left { IfOk result (λ count.
-            IfTold (disk_state self.old).left (λ rest. (disk_state self.new).left ≡ Some (drop count rest))) }
-        ensures available { IfOk result (λ count. IfTold (disk_state self.old).left (λ rest. count ≤ length rest)) }
-        ensures end { result ≡ Ok 0 → 0 < length buf.old → IfTold (disk_state self.old).left (λ rest. rest ≡ []) }
+            IfKnown (disk_state self.old).left (λ rest. (disk_state self.new).left ≡ Some (drop count rest))) }
+        ensures available { IfOk result (λ count. IfKnown (disk_state self.old).left (λ rest. count ≤ length rest)) }
+        ensures end { result ≡ Ok 0 → 0 < length buf.old → IfKnown (disk_state self.old).left (λ rest. rest ≡ []) }
         ensures unread { OnErr result ((disk_state self.new).left ≡ (disk_state self.old).left) }
         ensures counted_bytes { IfOk result (λ count. ReadsMore count (disk_state self.old) (disk_state self.new)) }
         ensures no_bytes { OnErr result ((disk_state self.new).opened ≡ (disk_state self.old).opened) }
@@ -218,10 +218,10 @@ impl<D: Disk + Drop> Host for DiskHost<D> {
     }
 
     fn create(&mut self, name: &str) -> Result<OutFile, Failed>
-        requires { length (disk_state self.old).ended < most_outputs }
+        requires { length (disk_state self.old).ended < max_outputs }
         ensures number { IfOk result (λ file. file.0 ≡ length (disk_state self.old).ended + 2) }
         ensures ended { OnOk result ((disk_state self.new).ended ≡ (disk_state self.old).ended ++ false ∷ []) }
-        ensures created { OnOk result (IfTold (disk_state self.old).given (λ given. (disk_state self.new).given ≡
+        ensures created { OnOk result (IfKnown (disk_state self.old).given (λ given. (disk_state self.new).given ≡
             Some (record given { created = given.created ++ record { name = name.now; bytes = [] } ∷ [] }))) }
         ensures not_ended { OnErr result ((disk_state self.new).ended ≡ (disk_state self.old).ended) }
         ensures not_created { OnErr result ((disk_state self.new).given ≡ (disk_state self.old).given) }
@@ -231,7 +231,7 @@ impl<D: Disk + Drop> Host for DiskHost<D> {
         ensures last { (disk_state self.new).failed_last ≡ is_err result }
         ensures made { (disk_state self.new).calls ≡ create_call (λ file. file.0) name.now result ∷ (disk_state self.old).calls }
         // A steady host fails only past its rooms or at a name that is longer than the longest.
-        ensures steady { IfTold (disk_state self.old).steady (λ rooms.
+        ensures steady { IfKnown (disk_state self.old).steady (λ rooms.
             length (disk_state self.old).ended + 2 < length rooms → length name.now ≤ longest_output_name → IsOk result) }
         ensures rooms { KeepsRooms (disk_state self.old) (disk_state self.new) }
         // No output changes.
@@ -239,10 +239,10 @@ impl<D: Disk + Drop> Host for DiskHost<D> {
         // Nothing of the current input is eaten.
         ensures input { InputStays D.left self.old self.new }
         // It creates the file of this name, and the output of the new number is then the file that this call of the disk made.
-        ensures asked { length (disk_state self.old).ended < most_created → AsksOnce D.calls
+        ensures asked { length (disk_state self.old).ended < max_created → AsksOnce D.calls
             (create_call (λ file. output_number D.number self.new file.0) name.now result) self.old self.new }
         // Once so many outputs were created, it fails without asking the disk.
-        ensures no_place { most_created ≤ length (disk_state self.old).ended → FailsUnasked D.calls self.old self.new result }
+        ensures no_place { max_created ≤ length (disk_state self.old).ended → FailsUnasked D.calls self.old self.new result }
         ensures same_input { KeepsInput D.number self.old self.new }
         ensures outputs { KeepsOutputsBut (length (disk_state self.old).ended + 2) D.number self.old self.new }
     {
@@ -274,7 +274,7 @@ impl<D: Disk + Drop> Host for DiskHost<D> {
         ensures cause { CountsWrite file.0 (disk_state self.old).faults (disk_state self.new).faults result }
         ensures last { EndsByWrite file.0 (disk_state self.old) (disk_state self.new) result }
         ensures made { (disk_state self.new).calls ≡ write_call file.0 piece.now result ∷ (disk_state self.old).calls }
-        ensures steady { IfTold (disk_state self.old).steady (λ rooms. length piece.now ≤ slice_index rooms file.0 → IsOk result) }
+        ensures steady { IfKnown (disk_state self.old).steady (λ rooms. length piece.now ≤ slice_index rooms file.0 → IsOk result) }
         // Where the output knows its bytes, those taken come after them, and no other output changes.
         ensures bytes { WritesOn D.held D.texts file.0 piece.now self.old self.new result }
         // Nothing of the current input is eaten.

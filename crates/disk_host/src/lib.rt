@@ -1,4 +1,4 @@
-//! The host of real files: it tells no contents, and asks a disk that tells its calls.
+//! The host of real files: it shows no contents, and asks a disk that shows its calls.
 #![tactic(auto)]
 
 mod asked;

@@ -3,7 +3,7 @@ ghost use Rattle.std.specs.Prelude.{◌≡◌, ◌<◌, ◌≤◌, [], length, d
 ghost use Rattle.std.specs.Io.KnownBytes.{Keeps, ReadConsumes, WriteAppends};
 
 use crate::Disk;
-use snd_host::{Failed, Log, MOST_READ_AT_ONCE, Noted, note_write};
+use snd_host::{Failed, Log, MAX_READ_AT_ONCE, Noted, note_write};
 use std::fs;
 use std::io::{Read, Write};
 use std::rt::Files;
@@ -32,8 +32,8 @@ fn read_some<F: Read>(file: &mut F, buf: &mut [u8]) -> Result<usize, Failed>
     ensures after { IfOk result (λ count. drop count buf.new ≡ drop count buf.old) }
     ensures bytes { ReadConsumes (F.remaining file.old) (F.remaining file.new) result buf.new }
 {
-    let mut chunk = [0u8; MOST_READ_AT_ONCE];
-    let most = buf.len().min(MOST_READ_AT_ONCE);
+    let mut chunk = [0u8; MAX_READ_AT_ONCE];
+    let most = buf.len().min(MAX_READ_AT_ONCE);
     let Ok(count) = file.read(&mut chunk[..most]) else {
         return Err(Failed);
     };

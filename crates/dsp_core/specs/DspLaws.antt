@@ -55,14 +55,14 @@ table-register_write : (s : ChipState) (address byte : ℕ) → (register_write 
 unfolding register_write
 table-register_write s address byte = by (nat_le 0x80 address) _ _
   where
-    by : (b : Bool) (registers : List ℕ) (waiting : ℕ)
-        → (if b then s else record s { registers = registers; hidden = record s.hidden { waiting = waiting } }).table ≡ s.table
-    by true registers waiting = refl
-    by false registers waiting = refl
+    by : (b : Bool) (registers : List ℕ) (kon_pending : ℕ)
+        → (if b then s else record s { registers = registers; hidden = record s.hidden { kon_pending = kon_pending } }).table ≡ s.table
+    by true registers kon_pending = refl
+    by false registers kon_pending = refl
 
 table-sample : (k : ℕ) (s : ChipState) (memory : List ℕ) → (sample k s memory).state.table ≡ s.table
 unfolding sample after_poll after_noise
-table-sample k s memory = polled_part (λ (s : ChipState). s.table) (is_polled k) s (without_bits s.hidden.waiting s.hidden.taken) refl
+table-sample k s memory = polled_part (λ (s : ChipState). s.table) (is_polled k) s (without_bits s.hidden.kon_pending s.hidden.kon_latched) refl
 
 pub dsp_saves_lawfully : IsLawfulSaving dsp_chip dsp_saving
 dsp_saves_lawfully = record {

@@ -3,7 +3,7 @@
 ghost use Rattle.std.specs.Prelude.{◌≡◌, ◌≤◌, ◌<◌, ◌+◌, ◌*◌, ◌==◌, true, false, length, IfOk, if◌then◌else◌, ℕ, List};
 ghost use Rattle.std.specs.FinSet as set;
 ghost use Rattle.trace_form.specs.Rooms.{frame_room, record_room};
-ghost use Rattle.chip_form.specs.Limits.{most_samples_of_chip, most_samples_of_batch};
+ghost use Rattle.chip_form.specs.Limits.{max_samples_of_chip, max_samples_of_batch};
 ghost use Rattle.chip_form.specs.Samples.{AddsSamples, AddsSample, count_after};
 ghost use Rattle.dsp_state.specs.Settings.{settings_of};
 ghost use Rattle.dsp_state.specs.Outside.{opened_state, register_read, register_write};
@@ -33,7 +33,7 @@ use trace_form::{Frames, Records};
 use voice_unit::{UNHEARD, Voice, VoiceOut, Workspace};
 
 /// The fewest samples for which rows pay.
-const FEWEST_ROWS: u8 = 3;
+const MIN_ROWS: u8 = 3;
 
 /// How many samples are made one by one before it is looked again whether rows may be.
 const ONE_BY_ONE: u8 = 4;
@@ -83,8 +83,8 @@ impl Dsp {
         let mut own = [0; 128];
         own.copy_from_slice(registers);
         let hidden = Hidden {
-            waiting: own[KON],
-            taken: 0,
+            kon_pending: own[KON],
+            kon_latched: 0,
             noise: Noise::new(),
             voices: [Voice::new(); 8],
             echo: Echo::new(),
@@ -129,7 +129,7 @@ impl Dsp {
         let place = usize::from(addr);
         self.state.registers[place] = if place == ENDX { 0 } else { value };
         if place == KON {
-            self.state.hidden.waiting = value;
+            self.state.hidden.kon_pending = value;
         }
     }
 
@@ -158,7 +158,7 @@ impl Dsp {
         requires settings { settings.now ≡ settings_of self.old.state.registers self.old.state.muted }
         requires frame_room { length frames.old < frame_room }
         requires record_room { length records.old + 8 ≤ record_room }
-        requires number { self.old.sample < most_samples_of_chip }
+        requires number { self.old.sample < max_samples_of_chip }
         ensures made { AddsSample mask (next_sample self.old memory.old) self.new.state memory.new frames.old frames.new records.old records.new }
         ensures chip { self.new ≡ record self.old { state = self.new.state; sample = self.old.sample + 1 } }
         ensures record_count { length records.new ≤ length records.old + 8 }
@@ -190,7 +190,7 @@ impl Dsp {
         requires settings { settings.now ≡ settings_of self.old.state.registers self.old.state.muted }
         requires frame_room { length frames.old + n ≤ frame_room }
         requires record_room { length records.old + 8 * n ≤ record_room }
-        requires number { self.old.sample + n ≤ most_samples_of_chip }
+        requires number { self.old.sample + n ≤ max_samples_of_chip }
         ensures made { AddsSamples mask (next_samples n self.old memory.old) self.new.state memory.new frames.old frames.new records.old records.new }
         ensures chip { self.new ≡ record self.old { state = self.new.state; sample = self.old.sample + n } }
     {
@@ -204,9 +204,9 @@ impl Dsp {
     fn make_rows(&mut self, n: u8, settings: &Settings, memory: &mut Aram, frames: &mut Frames)
         requires settings { settings.now ≡ settings_of self.old.state.registers self.old.state.muted }
         requires some { 0 < n }
-        requires few { n ≤ most_samples_of_batch }
+        requires few { n ≤ max_samples_of_batch }
         requires frame_room { length frames.old + n ≤ frame_room }
-        requires number { self.old.sample + n ≤ most_samples_of_chip }
+        requires number { self.old.sample + n ≤ max_samples_of_chip }
         requires apart { VoicesReadTheSame n self.old.sample self.old.state memory.old }
         ensures made { AddsFrames (next_samples n self.old memory.old) self.new.state memory.new frames.old frames.new }
         ensures chip { self.new ≡ record self.old { state = self.new.state; sample = self.old.sample + n } }
@@ -237,10 +237,10 @@ impl Dsp {
     )
         requires settings { settings.now ≡ settings_of self.old.state.registers self.old.state.muted }
         requires some { 0 < n }
-        requires few { n ≤ most_samples_of_batch }
+        requires few { n ≤ max_samples_of_batch }
         requires frame_room { length frames.old + n ≤ frame_room }
         requires record_room { length records.old + 8 * n ≤ record_room }
-        requires number { self.old.sample + n ≤ most_samples_of_chip }
+        requires number { self.old.sample + n ≤ max_samples_of_chip }
         requires apart { VoicesReadTheSame n self.old.sample self.old.state memory.old }
         ensures made { AddsSamples mask (next_samples n self.old memory.old) self.new.state memory.new frames.old frames.new records.old records.new }
         ensures chip { self.new ≡ record self.old { state = self.new.state; sample = self.old.sample + n } }
@@ -259,15 +259,15 @@ impl Dsp {
         self.number += u32::from(n);
     }
 
-    /// How many of the next n samples may be made by rows: where it is seen from afar that the echo can't write what the voices read all
+    /// How many of the next n samples may be made by rows: where a conservative test shows that the echo can't write what the voices read all
     /// of them, and else those that write nothing which a voice reads in them. None where it doesn't pay, as for one or two samples. Fewer
-    /// are free: no clause says how many it tells, and one by one the samples are the same.
+    /// may be reported: no clause says how many, and one by one the samples are the same.
     fn samples_by_rows(&self, n: u8, memory: &Aram) -> u8
-        requires { n ≤ most_samples_of_batch }
+        requires { n ≤ max_samples_of_batch }
         ensures few { result ≤ n }
         ensures same { VoicesReadTheSame result self.now.sample self.now.state memory.now }
     {
-        if n < FEWEST_ROWS {
+        if n < MIN_ROWS {
             return 0;
         }
         let far = is_echo_apart_from_afar(&self.state, memory);
@@ -275,7 +275,7 @@ impl Dsp {
             return n;
         }
         let apart = samples_apart(&self.state, memory, n);
-        if apart < FEWEST_ROWS {
+        if apart < MIN_ROWS {
             return 0;
         }
         apart
@@ -294,10 +294,10 @@ impl Dsp {
     ) -> u8
         requires settings { settings.now ≡ settings_of self.old.state.registers self.old.state.muted }
         requires some { 0 < n }
-        requires few { n ≤ most_samples_of_batch }
+        requires few { n ≤ max_samples_of_batch }
         requires frame_room { length frames.old + n ≤ frame_room }
         requires record_room { length records.old + 8 * n ≤ record_room }
-        requires number { self.old.sample + n ≤ most_samples_of_chip }
+        requires number { self.old.sample + n ≤ max_samples_of_chip }
         ensures some { 0 < result }
         ensures few { result ≤ n }
         ensures made { let made = next_samples result self.old memory.old in
@@ -328,10 +328,10 @@ impl Dsp {
         frames: &mut Frames,
         records: &mut Records,
     )
-        requires few { n ≤ most_samples_of_batch }
+        requires few { n ≤ max_samples_of_batch }
         requires frame_room { length frames.old + n ≤ frame_room }
         requires record_room { length records.old + 8 * n ≤ record_room }
-        requires number { self.old.sample + n ≤ most_samples_of_chip }
+        requires number { self.old.sample + n ≤ max_samples_of_chip }
         ensures made { AddsSamples mask (next_samples n self.old memory.old) self.new.state memory.new frames.old frames.new records.old records.new }
         ensures sample { self.new.sample ≡ self.old.sample + n }
         ensures batches { self.new.batches ≡ (if n == 0 then self.old.batches else count_after self.old.batches 1) }

@@ -16,10 +16,10 @@ use voice_unit::VoiceOut;
 
 /// The voices that the sample of a number keys, once the keys are polled, as bits.
 fn keyed_voices(state: &ChipState, number: u32) -> u8
-    ensures { result ≡ (if is_polled number then state.now.hidden.taken else 0) }
+    ensures { result ≡ (if is_polled number then state.now.hidden.kon_latched else 0) }
 {
     if is_polled(number) {
-        state.hidden.taken
+        state.hidden.kon_latched
     } else {
         0
     }
@@ -45,7 +45,7 @@ fn step_chip_voices(
         settings,
         common: SharedByVoices {
             noise: state.hidden.noise.value(),
-            taken: state.hidden.taken,
+            kon_latched: state.hidden.kon_latched,
             is_poll: is_polled(number),
         },
         memory,

@@ -44,7 +44,7 @@ fn voice_in(settings: &Settings, common: &SharedByVoices, v: u8, previous: i16) 
         reset: settings.reset,
         poll: common.is_poll,
         koff: one.koff,
-        kon: has_bit(common.taken, v),
+        kon: has_bit(common.kon_latched, v),
     }
 }
 

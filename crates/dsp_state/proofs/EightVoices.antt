@@ -15,16 +15,16 @@ length-map [] = refl
 length-map (one ∷ results) = ap suc (length-map results)
 
 -- the poll leaves a part of the state alone that has neither waiting nor taken key-ons
-pub polled_part : {X : Type 0} (part : ChipState → X) (b : Bool) (s : ChipState) (waiting : ℕ)
-    → part (record s { hidden = record s.hidden { waiting = waiting; taken = waiting } }) ≡ part s
-    → part (if b then record s { hidden = record s.hidden { waiting = waiting; taken = waiting } } else s) ≡ part s
-polled_part part true s waiting same = same
-polled_part part false s waiting same = refl
+pub polled_part : {X : Type 0} (part : ChipState → X) (b : Bool) (s : ChipState) (kon_pending : ℕ)
+    → part (record s { hidden = record s.hidden { kon_pending = kon_pending; kon_latched = kon_pending } }) ≡ part s
+    → part (if b then record s { hidden = record s.hidden { kon_pending = kon_pending; kon_latched = kon_pending } } else s) ≡ part s
+polled_part part true s kon_pending same = same
+polled_part part false s kon_pending same = refl
 
 -- the poll and the noise leave the voices alone
 pub voices-before_voices : (s : ChipState) (k : ℕ) → (before_voices s k).hidden.voices ≡ s.hidden.voices
 unfolding after_poll after_noise
-voices-before_voices s k = polled_part (λ s. s.hidden.voices) (k % 2 == 0) s (without_bits s.hidden.waiting s.hidden.taken) refl
+voices-before_voices s k = polled_part (λ s. s.hidden.voices) (k % 2 == 0) s (without_bits s.hidden.kon_pending s.hidden.kon_latched) refl
 
 pub length-voices-sample : (k : ℕ) (s : ChipState) (memory : List ℕ) → length (sample k s memory).state.hidden.voices ≡ length s.hidden.voices
 unfolding sample

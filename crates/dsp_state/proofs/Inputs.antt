@@ -56,12 +56,12 @@ same_inputs-registers_after answers registers address h =
 -- the poll and the noise leave the registers alone
 pub registers-before_voices : (s : ChipState) (k : ℕ) → (before_voices s k).registers ≡ s.registers
 unfolding after_poll after_noise
-registers-before_voices s k = polled_part (λ s. s.registers) (k % 2 == 0) s (without_bits s.hidden.waiting s.hidden.taken) refl
+registers-before_voices s k = polled_part (λ s. s.registers) (k % 2 == 0) s (without_bits s.hidden.kon_pending s.hidden.kon_latched) refl
 
 -- and the muted voices
 pub muted-before_voices : (s : ChipState) (k : ℕ) → (before_voices s k).muted ≡ s.muted
 unfolding after_poll after_noise
-muted-before_voices s k = polled_part (λ s. s.muted) (k % 2 == 0) s (without_bits s.hidden.waiting s.hidden.taken) refl
+muted-before_voices s k = polled_part (λ s. s.muted) (k % 2 == 0) s (without_bits s.hidden.kon_pending s.hidden.kon_latched) refl
 
 -- a sample changes no other register
 pub same_inputs-sample : (k : ℕ) (s : ChipState) (memory : List ℕ) → SameInputs (sample k s memory).state.registers s.registers

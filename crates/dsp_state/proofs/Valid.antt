@@ -51,7 +51,7 @@ groups-results_from shared v previous (voice ∷ voices) h =
 -- the poll and the noise leave the echo alone
 pub echo-before_voices : (s : ChipState) (k : ℕ) → (before_voices s k).hidden.echo ≡ s.hidden.echo
 unfolding after_poll after_noise
-echo-before_voices s k = polled_part (λ s. s.hidden.echo) (k % 2 == 0) s (without_bits s.hidden.waiting s.hidden.taken) refl
+echo-before_voices s k = polled_part (λ s. s.hidden.echo) (k % 2 == 0) s (without_bits s.hidden.kon_pending s.hidden.kon_latched) refl
 
 -- a sample keeps a state valid
 pub is_valid-sample : (k : ℕ) (s : ChipState) (memory : List ℕ) → is_valid s ≡ true → is_valid (sample k s memory).state ≡ true
@@ -70,6 +70,6 @@ pub is_valid-register_write : (s : ChipState) (address byte : ℕ) → is_valid 
 unfolding register_write is_valid
 is_valid-register_write s address byte h = by (nat_le 0x80 address) _ _
   where
-    by : (b : Bool) (registers : List ℕ) (waiting : ℕ) → is_valid (if b then s else record s { registers = registers; hidden = record s.hidden { waiting = waiting } }) ≡ true
-    by true registers waiting = h
-    by false registers waiting = h
+    by : (b : Bool) (registers : List ℕ) (kon_pending : ℕ) → is_valid (if b then s else record s { registers = registers; hidden = record s.hidden { kon_pending = kon_pending } }) ≡ true
+    by true registers kon_pending = h
+    by false registers kon_pending = h

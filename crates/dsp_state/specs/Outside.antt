@@ -12,8 +12,8 @@ unfoldable pub opened_state : (registers : List ℕ) → (table : List ℤ) → 
 opened_state registers table muted = record {
   registers = registers;
   hidden = record {
-    waiting = slice_index registers KON;
-    taken = 0;
+    kon_pending = slice_index registers KON;
+    kon_latched = 0;
     noise = noise_at 0;
     voices = replicate 8 silent_voice;
     echo = first_echo;
@@ -33,5 +33,5 @@ register_write s address byte =
     if nat_le 0x80 address then s
     else record s {
       registers = slice_set s.registers address (if address == ENDX then 0 else byte);
-      hidden = record s.hidden { waiting = if address == KON then byte else s.hidden.waiting };
+      hidden = record s.hidden { kon_pending = if address == KON then byte else s.hidden.kon_pending };
     }

@@ -25,7 +25,7 @@ entries_from registers v (voice ∷ voices) = voice_entry registers v ∷ entrie
 
 -- voice v can go to the start of its sample: its key-on waits, or it still has its key-on delay
 abbrev pub can_start : ChipState → (v : ℕ) → VoiceState → Bool
-can_start s v voice = has_bit s.hidden.waiting v || not (voice.delay == 0)
+can_start s v voice = has_bit s.hidden.kon_pending v || not (voice.delay == 0)
 
 -- the chain of the block at which voice v stands
 abbrev pub own_chain : ChipState → List ℕ → (v : ℕ) → VoiceState → ChainStart

@@ -26,8 +26,8 @@ is_polled k = k % 2 == 0
 -- A sample that polls the keys: the waiting key-ons lose those taken at the last poll, and what remains is taken.
 unfoldable pub after_poll : ChipState → (k : ℕ) → ChipState
 after_poll s k =
-    let waiting = without_bits s.hidden.waiting s.hidden.taken in
-    if is_polled k then record s { hidden = record s.hidden { waiting = waiting; taken = waiting } } else s
+    let kon_pending = without_bits s.hidden.kon_pending s.hidden.kon_latched in
+    if is_polled k then record s { hidden = record s.hidden { kon_pending = kon_pending; kon_latched = kon_pending } } else s
 
 -- the noise goes on where its rate fires
 unfoldable pub after_noise : ChipState → (counter : ℕ) → ChipState
@@ -56,7 +56,7 @@ voice_in registers common v previous =
       reset = is_soft_reset (slice_index registers FLG);
       poll = common.is_poll;
       koff = own.koff;
-      kon = has_bit common.taken v;
+      kon = has_bit common.kon_latched v;
     }
 
 -- what a voice becomes and gives in a sample
@@ -90,7 +90,7 @@ records_from k v (answer ∷ answers) =
 abbrev pub shared_input : ChipState → List ℕ → (k : ℕ) → SharedInput
 shared_input s memory k = record {
   registers = s.registers;
-  common = record { noise = s.hidden.noise; taken = s.hidden.taken; is_poll = is_polled k };
+  common = record { noise = s.hidden.noise; kon_latched = s.hidden.kon_latched; is_poll = is_polled k };
   memory = memory;
   table = s.table;
   counter = counter_at k;

@@ -41,7 +41,7 @@ fn add_voice(sums: &mut Sums, out: i16, volumes: &Volumes)
     sums.sent.right = with_share(sums.sent.right, out, volumes.sent_right);
 }
 
-/// Puts the sums of both sides over all voices. It stands apart and puts them one by one, since only
+/// Puts the sums of both sides over all voices. It is out of line and puts them one by one, since only
 /// where they go to memory are the four sums made as one vector.
 #[inline(never)]
 pub fn sum_voices(sums: &mut Sums, volumes: &[Volumes; 8], answers: &[VoiceOut; 8])

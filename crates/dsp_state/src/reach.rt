@@ -39,7 +39,7 @@ impl ChipState {
         requires { v < 8 }
         ensures { result ≡ can_start self.now v voice.now }
     {
-        has_bit(self.hidden.waiting, v) || voice.delay() != 0
+        has_bit(self.hidden.kon_pending, v) || voice.delay() != 0
     }
 
     /// Adds where voice `v` can be.

@@ -57,7 +57,7 @@ fn all_voice_settings(r: &Registers) -> [VoiceSettings; 8]
     ]
 }
 
-/// What samples read of the registers, where some voices are muted. It stands apart, so that samples
+/// What samples read of the registers, where some voices are muted. Out of line, so that samples
 /// read it in memory and not each part of it again.
 #[inline(never)]
 #[tactic(auto, unfolding(crate::specs::Settings::settings_of))]

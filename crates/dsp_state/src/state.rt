@@ -10,9 +10,9 @@ use voice_unit::Voice;
 #[derive(Clone, Copy, Debug)]
 pub struct Hidden {
     /// The key-ons that wait for a poll.
-    pub waiting: u8,
+    pub kon_pending: u8,
     /// The key-ons that the last poll took.
-    pub taken: u8,
+    pub kon_latched: u8,
     pub noise: Noise,
     pub voices: [Voice; 8],
     pub echo: Echo,

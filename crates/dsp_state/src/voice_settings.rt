@@ -23,7 +23,7 @@ pub struct SharedByVoices {
     /// The noise, at most 7FFFh.
     pub noise: u16,
     /// The key-ons that the last poll took.
-    pub taken: u8,
+    pub kon_latched: u8,
     /// The keys are polled in this sample.
     pub is_poll: bool,
 }

@@ -23,7 +23,7 @@ use std::marker::Model;
 const LENGTH_UNIT: u16 = 2048;
 
 /// The fewest samples for which rows pay.
-const FEWEST_OF_ROWS: u8 = 16;
+const MIN_OF_ROWS: u8 = 16;
 
 /// The echo between two steps.
 #[derive(Clone, Copy, Debug)]
@@ -160,7 +160,7 @@ impl Echo {
         }
     }
 
-    /// How many of the next cells, at most so many, stand one after another before the buffer's end. Fewer are free: no clause says how many are told.
+    /// How many of the next cells, at most so many, stand one after another before the buffer's end. It may report fewer: no clause says how many.
     pub fn cells_in_line(&self, edl: u8, most: u8) -> u8
         ensures few { result ≤ most }
         ensures line { StandInLine edl result self.now }
@@ -284,7 +284,7 @@ impl Echo {
         requires few { n ≤ BATCH_SIZE }
         ensures batch { echo_over_sums regs.now sums.now self.old memory.old n ≡ record { echo = self.new; memory = memory.new; frames = take n result } }
     {
-        if FEWEST_OF_ROWS <= n && are_cells_apart(regs) {
+        if MIN_OF_ROWS <= n && are_cells_apart(regs) {
             self.play_rows(n, regs, sums, memory)
         } else {
             self.play_each(n, regs, sums, memory)

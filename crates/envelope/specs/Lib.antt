@@ -1,6 +1,6 @@
 -- Envelope: one step of a voice's envelope.
 -- Steps: an envelope over several samples.
--- Rest: envelopes that steps leave as they are.
+-- UntilChange: envelopes that steps leave as they are.
 pub mod Envelope
 pub mod Steps
-pub mod Rest
+pub mod UntilChange

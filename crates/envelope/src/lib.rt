@@ -1,7 +1,7 @@
 //! The volume envelope of a voice: attack, decay, sustain and release, or a gain set by hand.
 #![tactic(auto)]
 
-mod rest;
+mod samples_until_change;
 mod target;
 
 ghost use Rattle.std.specs.Prelude.{◌≡◌, ◌≤◌, pos};
@@ -121,7 +121,7 @@ impl Envelope {
     }
 
     /// Keeps the level at 0 while a voice waits after its key on.
-    pub fn hold(&mut self)
+    pub fn reset_for_key_on(&mut self)
         ensures { self.new ≡ record self.old { level = 0; hidden = pos 0 } }
     {
         self.level = 0;

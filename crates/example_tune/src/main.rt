@@ -35,8 +35,8 @@ fn length_of(alloc: Global, bytes: &[u8]) -> io::Result<Option<Length>> {
     }
 }
 
-/// What `info` tells of a file.
-fn told_of(alloc: Global, file: &[u8]) -> io::Result<Outcome> {
+/// What `info` shows of a file.
+fn known_of(alloc: Global, file: &[u8]) -> io::Result<Outcome> {
     let mut host = host_with(alloc, &[(TUNE, file)], &[], OUTPUT_ROOM)?;
     let refusal = info(alloc, &mut host, TUNE);
     Ok(Outcome::of(refusal, host))
@@ -72,9 +72,9 @@ fn main(rt: HostRuntime) -> io::Result<()> {
     let tune = fs::read(&rt, TUNE)?;
     let table = fs::read(&rt, TABLE)?;
 
-    let told = told_of(alloc, tune.as_slice())?;
-    println!(rt; "info ends with status {}", told.status().code())?;
-    rt.stdout().write_all(told.report())?;
+    let known = known_of(alloc, tune.as_slice())?;
+    println!(rt; "info ends with status {}", known.status().code())?;
+    rt.stdout().write_all(known.report())?;
     if let Some(Length { frames, fade }) = length_of(alloc, tune.as_slice())? {
         println!(rt; "length {frames} with a fade of {fade}")?;
     }

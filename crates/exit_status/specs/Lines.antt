@@ -1,9 +1,9 @@
 -- The lines of complaint.
 use Rattle.std.specs.Prelude.{ℕ, List, ◌++◌, Option, codes, decimal, unwrap_or}
 use Rattle.text_form.specs.Digits.{four_digits}
-use Rattle.command_frame.specs.Answer.{Answer, refusal_of, line_of}
-use Rattle.command_frame.specs.declared.refusals.Refusal.{Refusal}
-use Rattle.command_frame.specs.declared.refusals.Refusal.TheVariants.{Usage, ReadFault, WriteFault, OutOfMemory, Input}
+use Rattle.command_runner.specs.Answer.{Answer, refusal_of, line_of}
+use Rattle.command_runner.specs.declared.refusals.Refusal.{Refusal}
+use Rattle.command_runner.specs.declared.refusals.Refusal.TheVariants.{Usage, ReadFault, WriteFault, OutOfMemory, Input}
 use Rattle.exit_status.specs.declared.cause.LineFault.{LineFault}
 use Rattle.exit_status.specs.declared.cause.LineFault.TheVariants as faults
 use Rattle.exit_status.specs.declared.cause.Cause.{Cause}

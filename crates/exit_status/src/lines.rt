@@ -1,11 +1,11 @@
 // The lines of complaint.
 ghost use Rattle.std.specs.Prelude.{◌≡◌, ◌++◌, codes, decimal};
 ghost use Rattle.snd_host.specs.Host.{HostState};
-ghost use Rattle.command_frame.specs.Conduct.{WritesLine};
+ghost use Rattle.command_runner.specs.Conduct.{WritesLine};
 ghost use Rattle.exit_status.specs.Lines.{fault_end, cause_line, refusal_line, code_length_line};
 
 use crate::{Cause, LineFault};
-use command_frame::{COMPLAINT, Complaint, Refusal, note_number};
+use command_runner::{COMPLAINT, Complaint, Refusal, note_number};
 use snd_host::{Failed, Host, write_all};
 use text_form::four_digits;
 

@@ -3,7 +3,7 @@ ghost use Rattle.std.specs.Prelude.{◌≡◌};
 ghost use Rattle.exit_status.specs.Statuses.{code_of, cause_status, status_of};
 
 use crate::Cause;
-use command_frame::Refusal;
+use command_runner::Refusal;
 
 /// How a run ended.
 #[derive(Clone, Copy, Debug, PartialEq, Eq)]

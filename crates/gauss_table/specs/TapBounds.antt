@@ -2,11 +2,11 @@
 use Rattle.std.specs.Prelude.{◌≤◌, ℕ, ℤ, unsigned_abs}
 
 -- a tap is at most the least weight times the least sample, in 2,048ths
-abbrev pub most_of_tap : ℕ
-most_of_tap = 0x80000
+abbrev pub max_tap : ℕ
+max_tap = 0x80000
 
 pub record AreSmall (oldest older newer newest : ℤ) : Type 0 where
-  pub oldest_bound : unsigned_abs oldest ≤ most_of_tap
-  pub older_bound : unsigned_abs older ≤ most_of_tap
-  pub newer_bound : unsigned_abs newer ≤ most_of_tap
-  pub newest_bound : unsigned_abs newest ≤ most_of_tap
+  pub oldest_bound : unsigned_abs oldest ≤ max_tap
+  pub older_bound : unsigned_abs older ≤ max_tap
+  pub newer_bound : unsigned_abs newer ≤ max_tap
+  pub newest_bound : unsigned_abs newest ≤ max_tap

@@ -58,7 +58,7 @@ fn high_half(pair: u32) -> i16
 }
 
 impl Products {
-    /// The products of four samples, oldest first, with the factors of place `i` of 256 between the middle two. They stand apart, so
+    /// The products of four samples, oldest first, with the factors of place `i` of 256 between the middle two. They are out of line, so
     /// that those of two samples are made at once.
     #[tactic(auto, unfolding(crate::specs::Interpolation::mix))]
     pub fn at(factors: &[Factors; 256], i: u8, x0: i16, x1: i16, x2: i16, x3: i16) -> Products

@@ -4,7 +4,7 @@ ghost use Rattle.std.specs.Prelude.{◌≡◌, ◌≤◌, List, ℤ, ◌+ℤ◌,
 ghost use Rattle.num_fix.specs.Arithmetic.{wrap16};
 ghost use Rattle.gauss_table.specs.Interpolation.{mix, mix_of, tap};
 ghost use Rattle.gauss_table.specs.Quads.{AreQuads};
-ghost use Rattle.gauss_table.specs.TapBounds.{AreSmall, most_of_tap};
+ghost use Rattle.gauss_table.specs.TapBounds.{AreSmall, max_tap};
 
 use crate::quad::Quad;
 use num_fix::{clamp16, clear_bit0, scaled, wrap16};
@@ -27,7 +27,7 @@ pub struct Taps {
 /// What one sample gives under its weight.
 fn tap(weight: i16, sample: i16) -> i32
     ensures value { result ≡ tap weight sample }
-    ensures bound { unsigned_abs result ≤ most_of_tap }
+    ensures bound { unsigned_abs result ≤ max_tap }
 {
     scaled(weight, sample, 11)
 }

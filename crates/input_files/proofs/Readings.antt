@@ -3,21 +3,21 @@ use Rattle.std.proofs.Common.{◌≡◌, ◌⊎◌, inl, inr, ap, sym, subst, �
 use Rattle.std.specs.Prelude.{true, false, is_ok, IfOk, IfErr, IsSomeAnd, if◌then◌else◌}
 use Rattle.std.proofs.lemmas.Bool.{lt-ltb, le-ltb}
 use Rattle.snd_host.specs.Calls.{Call}
-use Rattle.snd_host.specs.Host.{HostState, Files, IfTold, OpenedInput, next_count, KeepsRooms}
+use Rattle.snd_host.specs.Host.{HostState, Files, IfKnown, OpenedInput, next_count, KeepsRooms}
 use Rattle.snd_host.specs.Takes.{Takes}
 use Rattle.snd_host.specs.OpenedInputs.{OpensInOrder}
 use Rattle.snd_host.proofs.WholeInput.{inputs_then}
 use Rattle.snd_host.proofs.OpenedInputs.{in_order_nothing, in_order_same, in_order_then, in_order_ends}
-use Rattle.command_frame.specs.NamedInputs.{NamedInput, Held, TakesInOrder, first as first_held, later, held_by, held_of, input_read, inputs_reached}
-use Rattle.command_frame.specs.Answer.{Answer, done, refused}
-use Rattle.command_frame.specs.Conduct.{Delivery, IsSettled, IsOfDelivery, Plans, Prepares, PreparesBy, refusal_in}
-use Rattle.command_frame.specs.RunCalls.{EndsRefused}
-use Rattle.command_frame.specs.declared.refusals.Refusal.{Refusal}
-use Rattle.command_frame.specs.declared.refusals.Refusal.TheVariants.{Usage, ReadFault, WriteFault, OutOfMemory, Input}
+use Rattle.command_runner.specs.NamedInputs.{NamedInput, Held, TakesInOrder, first as first_held, later, held_by, held_of, input_read, inputs_reached}
+use Rattle.command_runner.specs.Answer.{Answer, done, refused}
+use Rattle.command_runner.specs.Conduct.{Delivery, IsSettled, IsOfDelivery, Plans, Prepares, PreparesBy, refusal_in}
+use Rattle.command_runner.specs.RunCalls.{EndsRefused}
+use Rattle.command_runner.specs.declared.refusals.Refusal.{Refusal}
+use Rattle.command_runner.specs.declared.refusals.Refusal.TheVariants.{Usage, ReadFault, WriteFault, OutOfMemory, Input}
 use Rattle.std.proofs.lemmas.List.{append-nil}
-use Rattle.command_frame.proofs.Attempting.{can_take_after, refused_as, refused_second, refused_whole, prepares_by_plan}
-use Rattle.command_frame.proofs.Obeying.{prepared_is_settled}
-use Rattle.command_frame.proofs.Sequences.{then_of, cut_first, begun_first, since_then}
+use Rattle.command_runner.proofs.Attempting.{can_take_after, refused_as, refused_second, refused_whole, prepares_by_plan}
+use Rattle.command_runner.proofs.Obeying.{prepared_is_settled}
+use Rattle.command_runner.proofs.Sequences.{then_of, cut_first, begun_first, since_then}
 use Rattle.input_files.specs.Reading.{bytes_in, value_from, refused_by, answer_from, Declines, Accepts, Reads, ReadsBy}
 
 -- what was refused by itself is refused for the command
@@ -33,7 +33,7 @@ pub plans_declined : {T P C : Type 0} (makes : P → Delivery) (given : Result T
     Declines given why → Plans makes (answer_from given next) (Err why)
 plans_declined {P = P} makes given next why d = record {
   ok = tt;
-  err = declined given next why d.told;
+  err = declined given next why d.known;
   no_usage = λ is. d.no_usage (inside {T = P} why Usage is);
   no_read = λ is. d.no_read (inside {T = P} why ReadFault is);
   no_write = λ is. d.no_write (inside {T = P} why WriteFault is);
@@ -110,8 +110,8 @@ declined_at : {T P C : Type 0} {input : NamedInput} {inputs : List NamedInput} (
     Reads input.name input.limit given x y (Err why) → Prepares makes (λ held. answer_from (given (first_held held)) (next (later held))) (input ∷ inputs) x y (Err why)
 declined_at {P = P} {C = C} {input = input} {inputs = inputs} makes given next x y why last none r = record {
   others = r.others;
-  opened = λ files told. record {
-    order = in_order_ends (input_read files input) _ _ _ x y (r.opened files told) (λ settled. settled) (last files told);
+  opened = λ files known. record {
+    order = in_order_ends (input_read files input) _ _ _ x y (r.opened files known) (λ settled. settled) (last files known);
     all = λ delivered. absurd (none_delivered delivered);
   };
   read = λ is. (r.err.read (inside {T = P} why ReadFault is), search rules);
@@ -119,8 +119,8 @@ declined_at {P = P} {C = C} {input = input} {inputs = inputs} makes given next x
   no_usage = λ is. r.err.no_usage (inside {T = P} why Usage is);
   no_write = λ is. r.err.no_write (inside {T = P} why WriteFault is);
   ok = tt;
-  err = λ files told. told_of files (r.err.told files told);
-  steady = λ is steady files told. ap (λ g. answer_from g (next (held_by files inputs))) (r.err.steady (inside {T = P} why ReadFault is) steady files told);
+  err = λ files known. known_of files (r.err.known files known);
+  steady = λ is steady files known. ap (λ g. answer_from g (next (held_by files inputs))) (r.err.steady (inside {T = P} why ReadFault is) steady files known);
   calls = declined_calls input inputs makes given next x y why none r.calls;
 }
   where
@@ -128,22 +128,22 @@ declined_at {P = P} {C = C} {input = input} {inputs = inputs} makes given next x
     none_delivered (inl wrong) = absurd (cc)
     none_delivered (inr write) = r.err.no_write cc
 
-    told_of : (files : Files) → (given (files input.name) ≡ Err why) ⊎ ((why ≡ ReadFault) ⊎ (why ≡ OutOfMemory)) →
+    known_of : (files : Files) → (given (files input.name) ≡ Err why) ⊎ ((why ≡ ReadFault) ⊎ (why ≡ OutOfMemory)) →
         (answer_from (given (files input.name)) (next (held_by files inputs)) ≡ refused why) ⊎ ((why ≡ ReadFault) ⊎ (why ≡ OutOfMemory))
-    told_of files (inl is) = inl (ap (λ g. answer_from g (next (held_by files inputs))) is)
-    told_of files (inr other) = inr other
+    known_of files (inl is) = inl (ap (λ g. answer_from g (next (held_by files inputs))) is)
+    known_of files (inr other) = inr other
 
 -- the last input was refused
 pub reads_declined : {T P C : Type 0} {input : NamedInput} (makes : P → Delivery) (given : Option (List ℕ) → Result T (Refusal C)) (next : Held → T → Answer C) (x y : HostState) (why : Refusal C) →
     Reads input.name input.limit given x y (Err why) → Prepares makes (λ held. answer_from (given (first_held held)) (next (later held))) (input ∷ []) x y (Err why)
-reads_declined {input = input} makes given next x y why r = declined_at makes given next x y why (λ files told settled. none_after (input.accepts (files input.name))) (λ bytes is. none_after (input.accepts (Some bytes))) r
+reads_declined {input = input} makes given next x y why r = declined_at makes given next x y why (λ files known settled. none_after (input.accepts (files input.name))) (λ bytes is. none_after (input.accepts (Some bytes))) r
 
 -- an input was refused that others come after
 pub reads_declined_before : {T P C : Type 0} {input : NamedInput} {inputs : List NamedInput} (makes : P → Delivery) (given : Option (List ℕ) → Result T (Refusal C)) (next : Held → T → Answer C) (x y : HostState) (why : Refusal C) →
     ((held : Option (List ℕ)) → input.accepts held ≡ is_ok (given held)) →
     Reads input.name input.limit given x y (Err why) → Prepares makes (λ held. answer_from (given (first_held held)) (next (later held))) (input ∷ inputs) x y (Err why)
 reads_declined_before {T = T} {C = C} {input = input} {inputs = inputs} makes given next x y why accepts r =
-    declined_at makes given next x y why (λ files told. reached_last input given accepts files inputs why (r.err.told files told)) (λ bytes is. ap (λ (b : Bool). if b then inputs else []) (accepts (Some bytes) ∙ ap (λ (g : Result T (Refusal C)). is_ok g) is)) r
+    declined_at makes given next x y why (λ files known. reached_last input given accepts files inputs why (r.err.known files known)) (λ bytes is. ap (λ (b : Bool). if b then inputs else []) (accepts (Some bytes) ∙ ap (λ (g : Result T (Refusal C)). is_ok g) is)) r
 
 steady_still : (x y : HostState) → KeepsRooms x y → IsSome x.steady → IsSome y.steady
 steady_still x y keeps steady = still x.steady refl steady
@@ -159,12 +159,12 @@ accepted_at : {T P C : Type 0} {input : NamedInput} {inputs : List NamedInput} (
     Reads input.name input.limit given x y (Ok value) → Prepares makes (λ held. next held value) inputs y z result → Prepares makes (λ held. answer_from (given (first_held held)) (next (later held))) (input ∷ inputs) x z result
 accepted_at {T = T} {P = P} {C = C} {input = input} {inputs = inputs} makes given next x y z value result reached same r p = record {
   others = inputs_then x y z r.others p.others;
-  opened = λ files told.
-      let rest = p.opened files (r.others.holds ∙ told) in
+  opened = λ files known.
+      let rest = p.opened files (r.others.holds ∙ known) in
       record {
-        order = subst (λ (l : List OpenedInput). OpensInOrder l (IsSettled (refusal_in result)) x z) (sym (reached files told))
-            (in_order_then (input_read files input) (inputs_reached files inputs) _ _ x y z (r.opened files told) (prepared_is_settled {C = C}) rest.order);
-        all = λ delivered. reached files told ∙ ap (λ (l : List OpenedInput). input_read files input ∷ l) (rest.all delivered);
+        order = subst (λ (l : List OpenedInput). OpensInOrder l (IsSettled (refusal_in result)) x z) (sym (reached files known))
+            (in_order_then (input_read files input) (inputs_reached files inputs) _ _ x y z (r.opened files known) (prepared_is_settled {C = C}) rest.order);
+        all = λ delivered. reached files known ∙ ap (λ (l : List OpenedInput). input_read files input ∷ l) (rest.all delivered);
       };
   read = λ is. let failed = p.read is in (record { once = failed.0.once ∙ ap next_count r.no_fault; last = failed.0.last }, search rules);
   no_fault = λ other. p.no_fault other ∙ r.no_fault;
@@ -172,40 +172,40 @@ accepted_at {T = T} {P = P} {C = C} {input = input} {inputs = inputs} makes give
   no_write = p.no_write;
   ok = ok_of result p.ok;
   err = err_of result p.err;
-  steady = λ is steady files told. first files told ∙ p.steady is (steady_still x y r.others.rooms steady) files (r.others.holds ∙ told);
+  steady = λ is steady files known. first files known ∙ p.steady is (steady_still x y r.others.rooms steady) files (r.others.holds ∙ known);
   calls = accepted_calls input inputs makes given next x y z value result same r.calls p.calls;
 }
   where
     first : (files : Files) → x.holds ≡ Some files → answer_from (given (files input.name)) (next (held_by files inputs)) ≡ next (held_by files inputs) value
-    first files told = ap (λ g. answer_from g (next (held_by files inputs))) (r.ok files told)
+    first files known = ap (λ g. answer_from g (next (held_by files inputs))) (r.ok files known)
 
-    ok_of : (result : Result P (Refusal C)) → IfOk result (λ plan. IfTold y.holds (λ files. next (held_by files inputs) value ≡ done (makes plan).outputs (makes plan).report)) →
-        IfOk result (λ plan. IfTold x.holds (λ files. answer_from (given (files input.name)) (next (held_by files inputs)) ≡ done (makes plan).outputs (makes plan).report))
-    ok_of (Ok plan) ok = λ files told. first files told ∙ ok files (r.others.holds ∙ told)
+    ok_of : (result : Result P (Refusal C)) → IfOk result (λ plan. IfKnown y.holds (λ files. next (held_by files inputs) value ≡ done (makes plan).outputs (makes plan).report)) →
+        IfOk result (λ plan. IfKnown x.holds (λ files. answer_from (given (files input.name)) (next (held_by files inputs)) ≡ done (makes plan).outputs (makes plan).report))
+    ok_of (Ok plan) ok = λ files known. first files known ∙ ok files (r.others.holds ∙ known)
     ok_of (Err why) ok = tt
 
     either : (files : Files) (why : Refusal C) → x.holds ≡ Some files → (next (held_by files inputs) value ≡ refused why) ⊎ ((why ≡ ReadFault) ⊎ (why ≡ OutOfMemory)) →
         (answer_from (given (files input.name)) (next (held_by files inputs)) ≡ refused why) ⊎ ((why ≡ ReadFault) ⊎ (why ≡ OutOfMemory))
-    either files why told (inl is) = inl (first files told ∙ is)
-    either files why told (inr other) = inr other
+    either files why known (inl is) = inl (first files known ∙ is)
+    either files why known (inr other) = inr other
 
-    err_of : (result : Result P (Refusal C)) → IfErr result (λ why. IfTold y.holds (λ files. (next (held_by files inputs) value ≡ refused why) ⊎ ((why ≡ ReadFault) ⊎ (why ≡ OutOfMemory)))) →
-        IfErr result (λ why. IfTold x.holds (λ files. (answer_from (given (files input.name)) (next (held_by files inputs)) ≡ refused why) ⊎ ((why ≡ ReadFault) ⊎ (why ≡ OutOfMemory))))
+    err_of : (result : Result P (Refusal C)) → IfErr result (λ why. IfKnown y.holds (λ files. (next (held_by files inputs) value ≡ refused why) ⊎ ((why ≡ ReadFault) ⊎ (why ≡ OutOfMemory)))) →
+        IfErr result (λ why. IfKnown x.holds (λ files. (answer_from (given (files input.name)) (next (held_by files inputs)) ≡ refused why) ⊎ ((why ≡ ReadFault) ⊎ (why ≡ OutOfMemory))))
     err_of (Ok plan) err = tt
-    err_of (Err why) err = λ files told. either files why told (err files (r.others.holds ∙ told))
+    err_of (Err why) err = λ files known. either files why known (err files (r.others.holds ∙ known))
 
 -- it was accepted, and others come after it
 pub reads_then : {T P C : Type 0} {input : NamedInput} {inputs : List NamedInput} (makes : P → Delivery) (given : Option (List ℕ) → Result T (Refusal C)) (next : Held → T → Answer C) (x y z : HostState) (value : T) (result : Result P (Refusal C)) →
     ((held : Option (List ℕ)) → input.accepts held ≡ is_ok (given held)) →
     Reads input.name input.limit given x y (Ok value) → Prepares makes (λ held. next held value) inputs y z result → Prepares makes (λ held. answer_from (given (first_held held)) (next (later held))) (input ∷ inputs) x z result
 reads_then {T = T} {C = C} {input = input} {inputs = inputs} makes given next x y z value result accepts r p =
-    accepted_at makes given next x y z value result (λ files told. reached_next input given accepts files inputs value (r.ok files told)) (λ bytes is. ap (λ (b : Bool). if b then inputs else []) (accepts (Some bytes) ∙ ap (λ (g : Result T (Refusal C)). is_ok g) is)) r p
+    accepted_at makes given next x y z value result (λ files known. reached_next input given accepts files inputs value (r.ok files known)) (λ bytes is. ap (λ (b : Bool). if b then inputs else []) (accepts (Some bytes) ∙ ap (λ (g : Result T (Refusal C)). is_ok g) is)) r p
 
 -- nothing was read any more, and the plan is made
 pub prepares_plan : {P C : Type 0} (makes : P → Delivery) (answer : Answer C) (x : HostState) (result : Result P (Refusal C)) → Plans makes answer result → Prepares makes (λ held. answer) [] x x result
 prepares_plan {P = P} {C = C} makes answer x result p = record {
-  others = record { holds = refl; given = refl; ended = refl; notes = refl; outputs = refl; rooms = λ rooms told. told };
-  opened = λ files told. record { order = in_order_nothing _ x; all = λ delivered. refl };
+  others = record { holds = refl; given = refl; ended = refl; notes = refl; outputs = refl; rooms = λ rooms known. known };
+  opened = λ files known. record { order = in_order_nothing _ x; all = λ delivered. refl };
   read = λ is. absurd (p.no_read is);
   no_fault = λ other. refl;
   no_usage = p.no_usage;
@@ -217,8 +217,8 @@ prepares_plan {P = P} {C = C} makes answer x result p = record {
 }
   where
     ok_of : (result : Result P (Refusal C)) → IfOk result (λ plan. answer ≡ done (makes plan).outputs (makes plan).report) →
-        IfOk result (λ plan. IfTold x.holds (λ files. answer ≡ done (makes plan).outputs (makes plan).report))
-    ok_of (Ok plan) ok = λ files told. ok
+        IfOk result (λ plan. IfKnown x.holds (λ files. answer ≡ done (makes plan).outputs (makes plan).report))
+    ok_of (Ok plan) ok = λ files known. ok
     ok_of (Err why) ok = tt
 
     either : (why : Refusal C) → (answer ≡ refused why) ⊎ (why ≡ OutOfMemory) → (answer ≡ refused why) ⊎ ((why ≡ ReadFault) ⊎ (why ≡ OutOfMemory))
@@ -226,15 +226,15 @@ prepares_plan {P = P} {C = C} makes answer x result p = record {
     either why (inr memory) = inr (inr memory)
 
     err_of : (result : Result P (Refusal C)) → IfErr result (λ why. (answer ≡ refused why) ⊎ (why ≡ OutOfMemory)) →
-        IfErr result (λ why. IfTold x.holds (λ files. (answer ≡ refused why) ⊎ ((why ≡ ReadFault) ⊎ (why ≡ OutOfMemory))))
+        IfErr result (λ why. IfKnown x.holds (λ files. (answer ≡ refused why) ⊎ ((why ≡ ReadFault) ⊎ (why ≡ OutOfMemory))))
     err_of (Ok plan) err = tt
-    err_of (Err why) err = λ files told. either why err
+    err_of (Err why) err = λ files known. either why err
 
 -- an input was read, and a plan was made by what it gives
 pub reads_plan : {T P C : Type 0} {input : NamedInput} (makes : P → Delivery) (given : Option (List ℕ) → Result T (Refusal C)) (next : T → Answer C) (x y : HostState) (value : T) (result : Result P (Refusal C)) →
     Reads input.name input.limit given x y (Ok value) → Plans makes (next value) result → Prepares makes (λ held. answer_from (given (first_held held)) next) (input ∷ []) x y result
 reads_plan {input = input} makes given next x y value result r p =
-    accepted_at makes given (λ (held : Held). next) x y y value result (λ files told. ap (λ (l : List OpenedInput). input_read files input ∷ l) (none_after (input.accepts (files input.name)))) (λ bytes is. none_after (input.accepts (Some bytes))) r (prepares_plan makes (next value) y result p)
+    accepted_at makes given (λ (held : Held). next) x y y value result (λ files known. ap (λ (l : List OpenedInput). input_read files input ∷ l) (none_after (input.accepts (files input.name)))) (λ bytes is. none_after (input.accepts (Some bytes))) r (prepares_plan makes (next value) y result p)
 
 -- an input was refused, and what comes of it with it
 pub reads_refused : {T U C : Type 0} {name : List ℕ} {limit : ℕ} (given : Option (List ℕ) → Result T (Refusal C)) (value : T → Result U (Refusal C)) (x y : HostState) (why : Refusal C) →
@@ -245,10 +245,10 @@ reads_refused {T = T} {U = U} {C = C} {name = name} {limit = limit} given value 
   no_fault = tt;
   ok = tt;
   err = record {
-    told = λ files told. told_of files (r.err.told files told);
+    known = λ files known. known_of files (r.err.known files known);
     read = r.err.read;
     no_fault = r.err.no_fault;
-    steady = λ is steady files told. ap (λ g. value_from g value) (r.err.steady is steady files told);
+    steady = λ is steady files known. ap (λ g. value_from g value) (r.err.steady is steady files known);
     no_usage = r.err.no_usage;
     no_write = r.err.no_write;
   };
@@ -261,10 +261,10 @@ reads_refused {T = T} {U = U} {C = C} {name = name} {limit = limit} given value 
   };
 }
   where
-    told_of : (files : Files) → (given (files name) ≡ Err why) ⊎ ((why ≡ ReadFault) ⊎ (why ≡ OutOfMemory)) →
+    known_of : (files : Files) → (given (files name) ≡ Err why) ⊎ ((why ≡ ReadFault) ⊎ (why ≡ OutOfMemory)) →
         (value_from (given (files name)) value ≡ Err why) ⊎ ((why ≡ ReadFault) ⊎ (why ≡ OutOfMemory))
-    told_of files (inl is) = inl (ap (λ g. value_from g value) is)
-    told_of files (inr other) = inr other
+    known_of files (inl is) = inl (ap (λ g. value_from g value) is)
+    known_of files (inr other) = inr other
 
 -- an input was read, and accepted or refused by what it gives
 pub reads_accepts : {T U C : Type 0} {name : List ℕ} {limit : ℕ} (given : Option (List ℕ) → Result T (Refusal C)) (value : T → Result U (Refusal C)) (x y : HostState) (bytes : T) (result : Result U (Refusal C)) →
@@ -273,17 +273,17 @@ reads_accepts {T = T} {U = U} {C = C} {name = name} {limit = limit} given value 
   others = r.others;
   opened = r.opened;
   no_fault = r.no_fault;
-  ok = λ files told. ap (λ g. value_from g value) (r.ok files told) ∙ a.ok;
+  ok = λ files known. ap (λ g. value_from g value) (r.ok files known) ∙ a.ok;
   err = tt;
   calls = record { bytes = r.calls.bytes; taken = r.calls.taken; since = r.calls.since; ends = (r.calls.ends.0, ap (λ g. value_from g value) r.calls.ends.1 ∙ a.ok) };
 }
 reads_accepts {T = T} {U = U} {C = C} {name = name} {limit = limit} given value x y bytes (Err why) r a = record {
   others = r.others;
-  opened = λ files told. in_order_same _ _ _ x y y (r.opened files told) (λ settled. prepared_is_settled {C = C}) refl;
+  opened = λ files known. in_order_same _ _ _ x y y (r.opened files known) (λ settled. prepared_is_settled {C = C}) refl;
   no_fault = tt;
   ok = tt;
   err = record {
-    told = λ files told. told_of files (ap (λ g. value_from g value) (r.ok files told)) a.err.told;
+    known = λ files known. known_of files (ap (λ g. value_from g value) (r.ok files known)) a.err.known;
     read = λ is. absurd (a.err.no_read is);
     no_fault = λ other. r.no_fault;
     steady = λ is. absurd (a.err.no_read is);
@@ -294,14 +294,14 @@ reads_accepts {T = T} {U = U} {C = C} {name = name} {limit = limit} given value 
     bytes = r.calls.bytes;
     taken = r.calls.taken;
     since = r.calls.since;
-    ends = refused_whole (Takes name limit r.calls.bytes) (value_from (given (Some r.calls.bytes)) value ≡ Err why) why r.calls.taken r.calls.ends.0 (λ is. a.err.no_read is) (by_bytes a.err.told);
+    ends = refused_whole (Takes name limit r.calls.bytes) (value_from (given (Some r.calls.bytes)) value ≡ Err why) why r.calls.taken r.calls.ends.0 (λ is. a.err.no_read is) (by_bytes a.err.known);
   };
 }
   where
-    told_of : (files : Files) → value_from (given (files name)) value ≡ value bytes → (value bytes ≡ Err why) ⊎ (why ≡ OutOfMemory) →
+    known_of : (files : Files) → value_from (given (files name)) value ≡ value bytes → (value bytes ≡ Err why) ⊎ (why ≡ OutOfMemory) →
         (value_from (given (files name)) value ≡ Err why) ⊎ ((why ≡ ReadFault) ⊎ (why ≡ OutOfMemory))
-    told_of files same (inl is) = inl (same ∙ is)
-    told_of files same (inr memory) = inr (inr memory)
+    known_of files same (inl is) = inl (same ∙ is)
+    known_of files same (inr memory) = inr (inr memory)
 
     by_bytes : (value bytes ≡ Err why) ⊎ (why ≡ OutOfMemory) → (value_from (given (Some r.calls.bytes)) value ≡ Err why) ⊎ (why ≡ OutOfMemory)
     by_bytes (inl is) = inl (ap (λ g. value_from g value) r.calls.ends.1 ∙ is)
@@ -327,20 +327,20 @@ accepts_value refusal given value is = record { ok = ap (λ g. refused_by refusa
 pub declines_error : {T E C : Type 0} (refusal : E → Refusal C) (given : Result T E) (error none : E) (why : Refusal C) → (given ≡ Err error) ⊎ (error ≡ none) → refusal error ≡ why → refusal none ≡ OutOfMemory →
     (why ≡ Usage → ⊥) → (why ≡ ReadFault → ⊥) → (why ≡ WriteFault → ⊥) → Declines (refused_by refusal given) why
 declines_error {T = T} {E = E} {C = C} refusal given error none why cause is memory no_usage no_read no_write = record {
-  told = told_of cause;
+  known = known_of cause;
   no_usage = no_usage;
   no_read = no_read;
   no_write = no_write;
 }
   where
-    told_of : (given ≡ Err error) ⊎ (error ≡ none) → (refused_by refusal given ≡ Err why) ⊎ (why ≡ OutOfMemory)
-    told_of (inl same) = inl (ap (λ g. refused_by refusal g) same ∙ ap (λ (r : Refusal C). Err r) is)
-    told_of (inr same) = inr (sym is ∙ ap refusal same ∙ memory)
+    known_of : (given ≡ Err error) ⊎ (error ≡ none) → (refused_by refusal given ≡ Err why) ⊎ (why ≡ OutOfMemory)
+    known_of (inl same) = inl (ap (λ g. refused_by refusal g) same ∙ ap (λ (r : Refusal C). Err r) is)
+    known_of (inr same) = inr (sym is ∙ ap refusal same ∙ memory)
 
 -- a reader's error that is a cause of its own for refusing the input
 pub declines_input : {T E C : Type 0} (cause : E → C) (given : Result T E) (error : E) → given ≡ Err error → Declines (refused_by (λ e. Input (cause e)) given) (Input (cause error))
 declines_input cause given error is = record {
-  told = inl (ap (refused_by (λ e. Input (cause e))) is);
+  known = inl (ap (refused_by (λ e. Input (cause e))) is);
   no_usage = λ other. absurd cc;
   no_read = λ other. absurd cc;
   no_write = λ other. absurd cc;

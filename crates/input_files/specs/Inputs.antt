@@ -6,9 +6,9 @@ use Rattle.spc_form.specs.declared.reading.SpcRefusal.TheVariants as spc
 use Rattle.gauss_table.specs.Weights.{weights_in}
 use Rattle.gauss_table.specs.declared.refusal.TableRefusal.{TableRefusal}
 use Rattle.gauss_table.specs.declared.refusal.TableRefusal.TheVariants as table
-use Rattle.command_frame.specs.NamedInputs.{NamedInput}
-use Rattle.command_frame.specs.declared.refusals.Refusal.{Refusal}
-use Rattle.command_frame.specs.declared.refusals.Refusal.TheVariants.{Input, OutOfMemory}
+use Rattle.command_runner.specs.NamedInputs.{NamedInput}
+use Rattle.command_runner.specs.declared.refusals.Refusal.{Refusal}
+use Rattle.command_runner.specs.declared.refusals.Refusal.TheVariants.{Input, OutOfMemory}
 use Rattle.exit_status.specs.declared.cause.Cause.{Cause}
 use Rattle.exit_status.specs.declared.cause.Cause.TheVariants.{SpcLength, SpcSignature, TableLength, InputTooLong}
 use Rattle.input_files.specs.Reading.{input_limit, bytes_in, value_from, refused_by}

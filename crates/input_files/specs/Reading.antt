@@ -2,23 +2,23 @@
 use Rattle.std.specs.Prelude.{◌≡◌, ◌⊎◌, ℕ, List, [], ◌∷◌, length, Option, Some, None, Result, Ok, Err, IfOk, IfErr, IsSome, is_ok, nat_lt, if◌then◌else◌}
 use Rattle.snd_host.specs.Calls.{Call}
 use Rattle.snd_host.specs.Follows.{Since}
-use Rattle.snd_host.specs.Host.{HostState, IfTold, InputFailed, ChangesInputs, greatest_limit}
+use Rattle.snd_host.specs.Host.{HostState, IfKnown, InputFailed, ChangesInputs, max_limit}
 use Rattle.snd_host.specs.Takes.{Takes}
-use Rattle.spc_form.specs.Accepted.{greatest_length}
+use Rattle.spc_form.specs.Accepted.{max_length}
 use Rattle.snd_host.specs.OpenedInputs.{whole_input, OpensInOrder}
-use Rattle.command_frame.specs.NamedInputs.{NamedInput}
-use Rattle.command_frame.specs.Answer.{Answer, refused}
-use Rattle.command_frame.specs.Conduct.{IsSettled, refusal_in}
-use Rattle.command_frame.specs.RunCalls.{EndsRefused}
-use Rattle.command_frame.specs.declared.refusals.Refusal.{Refusal}
-use Rattle.command_frame.specs.declared.refusals.Refusal.TheVariants.{Usage, ReadFault, WriteFault, OutOfMemory, Input}
+use Rattle.command_runner.specs.NamedInputs.{NamedInput}
+use Rattle.command_runner.specs.Answer.{Answer, refused}
+use Rattle.command_runner.specs.Conduct.{IsSettled, refusal_in}
+use Rattle.command_runner.specs.RunCalls.{EndsRefused}
+use Rattle.command_runner.specs.declared.refusals.Refusal.{Refusal}
+use Rattle.command_runner.specs.declared.refusals.Refusal.TheVariants.{Usage, ReadFault, WriteFault, OutOfMemory, Input}
 
 -- the greatest length of most inputs, that of an SPC file, and the greatest of a sound file to be encoded
 abbrev pub input_limit : ℕ
-input_limit = greatest_length
+input_limit = max_length
 
 abbrev pub wave_limit : ℕ
-wave_limit = greatest_limit
+wave_limit = max_limit
 
 -- the bytes that an input holds, of which there may be this many; it may not be there
 abbrev pub bytes_in : {C : Type 0} → (limit : ℕ) → (too_long : C) → (held : Option (List ℕ)) → Result (List ℕ) (Refusal C)
@@ -46,7 +46,7 @@ answer_from (Err refusal) answer = refused refusal
 
 -- Bytes are refused as they are to be, or for want of memory.
 pub record Declines {T C : Type 0} (given : Result T (Refusal C)) (refusal : Refusal C) : Type 0 where
-  pub told : (given ≡ Err refusal) ⊎ (refusal ≡ OutOfMemory)
+  pub known : (given ≡ Err refusal) ⊎ (refusal ≡ OutOfMemory)
   pub no_usage : refusal ≡ Usage → ⊥
   pub no_read : refusal ≡ ReadFault → ⊥
   pub no_write : refusal ≡ WriteFault → ⊥
@@ -59,10 +59,10 @@ pub record Accepts {T C : Type 0} (given : Result T (Refusal C)) (result : Resul
 -- An input of this name was read and refused as it is to be, or it could not be read, or there was no memory.
 pub record DeclinesInput {T C : Type 0} (name : List ℕ) (given : Option (List ℕ) → Result T (Refusal C)) (old new : HostState)
     (refusal : Refusal C) : Type 0 where
-  pub told : IfTold old.holds (λ files. (given (files name) ≡ Err refusal) ⊎ (refusal ≡ ReadFault) ⊎ (refusal ≡ OutOfMemory))
+  pub known : IfKnown old.holds (λ files. (given (files name) ≡ Err refusal) ⊎ (refusal ≡ ReadFault) ⊎ (refusal ≡ OutOfMemory))
   pub read : refusal ≡ ReadFault → InputFailed old new
   pub no_fault : (refusal ≡ ReadFault → ⊥) → new.faults.inputs ≡ old.faults.inputs
-  pub steady : refusal ≡ ReadFault → IsSome old.steady → IfTold old.holds (λ files. given (files name) ≡ Err ReadFault)
+  pub steady : refusal ≡ ReadFault → IsSome old.steady → IfKnown old.holds (λ files. given (files name) ≡ Err ReadFault)
   pub no_usage : refusal ≡ Usage → ⊥
   pub no_write : refusal ≡ WriteFault → ⊥
 
@@ -84,8 +84,8 @@ pub record ReadsBy {T C : Type 0} (name : List ℕ) (limit : ℕ) (given : Optio
 pub record Reads {T C : Type 0} (name : List ℕ) (limit : ℕ) (given : Option (List ℕ) → Result T (Refusal C)) (old new : HostState)
     (result : Result T (Refusal C)) : Type 0 where
   pub others : ChangesInputs old new
-  pub opened : IfTold old.holds (λ files. OpensInOrder (whole_input files name limit ∷ []) (IsSettled (refusal_in result)) old new)
+  pub opened : IfKnown old.holds (λ files. OpensInOrder (whole_input files name limit ∷ []) (IsSettled (refusal_in result)) old new)
   pub no_fault : IfOk result (λ value. new.faults.inputs ≡ old.faults.inputs)
-  pub ok : IfOk result (λ value. IfTold old.holds (λ files. given (files name) ≡ Ok value))
+  pub ok : IfOk result (λ value. IfKnown old.holds (λ files. given (files name) ≡ Ok value))
   pub err : IfErr result (λ refusal. DeclinesInput name given old new refusal)
   pub calls : ReadsBy name limit given old new result

@@ -5,7 +5,7 @@ ghost use Rattle.input_files.specs.Reading.{Accepts, Reads, input_limit};
 ghost use Rattle.input_files.specs.Inputs.{file_of, file_in, table_of, table_in};
 
 use crate::{INPUT_LIMIT, read_input};
-use command_frame::Refusal;
+use command_runner::Refusal;
 use exit_status::Cause;
 use gauss_table::{GaussTable, TableRefusal};
 use snd_host::Host;

@@ -3,14 +3,14 @@ ghost use Rattle.std.specs.Prelude.{◌≡◌, ◌≤◌, length, IfOk};
 ghost use Rattle.snd_host.specs.Host.{HostState};
 ghost use Rattle.input_files.specs.Reading.{bytes_in, Reads, input_limit, wave_limit};
 
-use command_frame::Refusal;
+use command_runner::Refusal;
 use snd_host::{Host, ReadRefusal, read_whole};
-use spc_form::GREATEST_LENGTH;
+use spc_form::MAX_LENGTH;
 use std::alloc::Global;
 use std::marker::Model;
 
 /// The greatest length of most inputs, that of an SPC file.
-pub const INPUT_LIMIT: usize = GREATEST_LENGTH;
+pub const INPUT_LIMIT: usize = MAX_LENGTH;
 
 /// The greatest length of a sound file that is to be encoded.
 pub const WAVE_LIMIT: usize = 16777216;

@@ -9,7 +9,7 @@ use Rattle.std.specs.List.{filter}
 use Rattle.aram_core.specs.Memory.{byte_at, with_byte}
 use Rattle.trace_form.specs.declared.record.Record.{Record}
 use Rattle.trace_form.specs.declared.record.Record.TheVariants.{Reg, Port, Voice}
-use Rattle.chip_form.specs.Limits.{most_samples_of_chip}
+use Rattle.chip_form.specs.Limits.{max_samples_of_chip}
 use Rattle.chip_form.specs.Samples.{SampleResult, SamplesResult, samples, in_mask}
 use Rattle.chip_form.proofs.OneMoreSample.{samples_none, samples_more}
 use Rattle.chip_form.specs.ChipMeaning.{ChipMeaning}
@@ -21,7 +21,7 @@ use Rattle.lag_bus.specs.Ready.{is_before_sample, ready_frames, waiting_frames, 
 use Rattle.lag_bus.specs.Book.{may_be_read, may_be_written}
 use Rattle.lag_bus.specs.Late.{late_with_sample}
 use Rattle.lag_bus.specs.Held.{Held, IsHeld, IsKnown, pending_samples, late_of}
-use Rattle.lag_bus.specs.declared.known.KnownReach.{KnownReach}
+use Rattle.lag_bus.specs.declared.known.ReachCache.{ReachCache}
 use Rattle.chip_form.specs.declared.pages.ReachPages.{ReachPages}
 use Rattle.lag_bus.proofs.MergedRecords.{Each-append, Each-map, Each-filter, Each-merge, merge_voices, merge_event, merge_nothing, length-merge, number_before, later_before, event_after, voice_before, voice_after, voice_number, filter_all, filter_none}
 use Rattle.chip_form.proofs.LawfulSamples.{frame_count_of_samples, is_valid-samples, voices_of_mask}
@@ -137,8 +137,8 @@ module _ {S : Type 0} {chip : ChipMeaning S} (laws : IsLawfulChip chip) where
           records_fit = is.records_fit;
         }
 
-    -- What was asked of the reach stays so over a byte that is put where they don't read, and so does what tells nothing.
-    pub known_put : (at value : ℕ) (known : KnownReach) → IsKnown (chip.reach h.state h.memory) known
+    -- What was asked of the reach stays so over a byte that is put where they don't read, and so does what shows nothing.
+    pub known_put : (at value : ℕ) (known : ReachCache) → IsKnown (chip.reach h.state h.memory) known
         → (may_be_read (chip.reach h.state h.memory) at ≡ true → (reach : ReachPages) → IsKnown reach known)
         → IsKnown (chip.reach h.state (with_byte h.memory at value)) known
     known_put at value known is_known any = elim (cases_Bool (may_be_read (chip.reach h.state h.memory) at)) [
@@ -147,9 +147,9 @@ module _ {S : Type 0} {chip : ChipMeaning S} (laws : IsLawfulChip chip) where
     ]
 
     -- one sample more that is pending
-    pub late_pend : late_of chip (record h { pending = h.pending + 1 }) ≡
+    pub late_queue : late_of chip (record h { pending = h.pending + 1 }) ≡
         late_with_sample chip (late_of chip h)
-    late_pend =
+    late_queue =
         let before : SamplesResult S = pending_samples chip h in
         let made : SampleResult S = chip.one_sample (h.number + h.pending) before.state before.memory in
         let valid = is_valid-samples chip laws h.pending h.number h.state h.memory is.is_valid in
@@ -351,7 +351,7 @@ module _ {S : Type 0} {chip : ChipMeaning S} (laws : IsLawfulChip chip) where
     held_records none empty = rw (none, samples_none, is.none_waits none, merge_nothing, append-nil) at empty
 
     pub held_loaded : (state : S) (number : ℕ) (memory : List ℕ) → h.pending ≡ 0 → (late_of chip h).frames ≡ [] → (late_of chip h).records ≡ []
-        → chip.is_valid state ≡ true → number ≤ most_samples_of_chip
+        → chip.is_valid state ≡ true → number ≤ max_samples_of_chip
         → IsHeld chip (record h { state = state; number = number; memory = memory })
     held_loaded state number memory none frames records valid few =
         record {

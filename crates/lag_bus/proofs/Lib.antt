@@ -20,8 +20,8 @@ pub mod FallenDue
 pub mod RoomOfFallen
 -- PassesOfAWait: the machine with its lag book passes cycles in which it is only looked at
 pub mod PassesOfAWait
--- RoundsOfAWait: and it makes rounds of steps that only look
-pub mod RoundsOfAWait
+-- IterationsOfAWait: and it makes iterations of steps that only look
+pub mod IterationsOfAWait
 -- TotalOfCalls: over calls that load nothing the chip counts on
 pub mod TotalOfCalls
 -- LateTicks: ticks that are done late are those of the cycles since

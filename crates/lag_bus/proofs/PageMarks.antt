@@ -1,10 +1,10 @@
--- What was asked of a reach: nothing at first, and what marks of pages tell.
+-- What was asked of a reach: nothing at first, and what marks of pages show.
 use Rattle.std.proofs.Common.{◌≡◌, ◌⊎◌, ℕ, ◌<◌, List, length, set, inl, inr, true, false, None, replicate, slice_index_or, refl, sym, ◌∙◌, arith}
 use Rattle.std.proofs.lemmas.Bool.{cases_lt, cases_eq}
 use Rattle.std.proofs.lemmas.List.{get_or-replicate, get_or-set_same, get_or-set_other, get_or_past, length-replicate, length-set}
 use Rattle.chip_form.specs.declared.pages.ReachPages.{ReachPages}
 use Rattle.lag_bus.specs.Held.{AreMarks, IsKnown}
-use Rattle.lag_bus.specs.declared.known.KnownReach.{KnownReach}
+use Rattle.lag_bus.specs.declared.known.ReachCache.{ReachCache}
 
 -- at first each mark is 0
 unmarked : (page : ℕ) → ◌≡◌ {A = ℕ} (slice_index_or (replicate 256 0) page 0) 0
@@ -17,7 +17,7 @@ unmarked page = elim (cases_lt page 256) [
 pub are_marks : (IsOfKind : ℕ → Type 0) → AreMarks IsOfKind (replicate 256 0)
 are_marks IsOfKind page some = let none = unmarked page in absurd (omega arith)
 
--- so nothing is told of any reach
+-- so nothing is known of any reach
 pub none_known : (reach : ReachPages) (page other : ℕ)
     → IsKnown reach record { is_any = false; is_few = true; page = page; other = other; entangled = None; unwritten = replicate 256 0; unread = replicate 256 0 }
 none_known reach page other = record {
@@ -29,7 +29,7 @@ none_known reach page other = record {
 }
 
 -- where nothing was kept, what there is is so of every reach
-pub known_of_any : (before after : ReachPages) (known : KnownReach) → known.is_any ≡ false → IsKnown before known → IsKnown after known
+pub known_of_any : (before after : ReachPages) (known : ReachCache) → known.is_any ≡ false → IsKnown before known → IsKnown after known
 known_of_any before after known off is =
     let none = is.none off in
     record {
@@ -66,8 +66,8 @@ no_mark_left marks one two alone page some = elim (cases_eq page two) [
       ]
 ]
 
--- so where no more was kept, nothing is told of any reach
-pub none_left : (before after : ReachPages) (known : KnownReach) (one two : ℕ) → one ≡ known.page → two ≡ known.other → known.is_few ≡ true → IsKnown before known
+-- so where no more was kept, nothing is known of any reach
+pub none_left : (before after : ReachPages) (known : ReachCache) (one two : ℕ) → one ≡ known.page → two ≡ known.other → known.is_few ≡ true → IsKnown before known
     → IsKnown after record {
       is_any = false;
       is_few = known.is_few;

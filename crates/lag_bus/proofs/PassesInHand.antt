@@ -12,7 +12,7 @@ use Rattle.lag_bus.proofs.LateTicks.{no_ticks, ticks_to_come}
 use Rattle.lag_bus.proofs.FallenDue.{with_book-own, with_fallen-none, pass-with_fallen}
 use Rattle.spc700_exec.specs.declared.bus.TheConstants.{CYCLES_PER_SAMPLE}
 
--- where memory alone is neither a port nor a timer nor the ROM is asked or told
+-- where memory alone is neither a port nor a timer nor the ROM is asked or known
 pub record IsApart (io : Io) (at : ℕ) : Type 0 where
   pub register : (at == 0xF3) ≡ false
   pub port : is_within 0xF4 0xF7 at ≡ false

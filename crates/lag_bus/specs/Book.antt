@@ -11,7 +11,7 @@ use Rattle.chip_form.specs.ChipMeaning.{ChipMeaning}
 use Rattle.lock_step.specs.Machine.{Machine}
 use Rattle.lock_step.specs.LockStep.{writes_register, writes_port}
 use Rattle.trace_form.specs.Rooms.{event_room}
-use Rattle.chip_form.specs.Limits.{most_samples_of_batch}
+use Rattle.chip_form.specs.Limits.{max_samples_of_batch}
 
 pub record Book : Type 0 where
   -- the samples that the chip hasn't made yet
@@ -95,7 +95,7 @@ with_event (Some cause) at book = book
 abbrev pub with_sample : {S : Type 0} → ChipMeaning S → Machine S → Book → Book
 with_sample chip machine book =
     let more = record book { pending = book.pending + 1 } in
-    if more.pending == most_samples_of_batch then with_reach_of chip machine (settled_book Full more) else more
+    if more.pending == max_samples_of_batch then with_reach_of chip machine (settled_book Full more) else more
 
 -- the book after a load that leaves this machine: nothing is pending, the reach is taken anew, and what was counted stays
 abbrev pub book_after_load : {S : Type 0} → ChipMeaning S → Machine S → Book → Book

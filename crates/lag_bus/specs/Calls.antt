@@ -80,7 +80,7 @@ AnswersInLockStep {S} {V} chip saving =
     ≡ ((lock_step chip).read (after_calls (lock_step_calls chip saving) calls bus.machine) at).0
 
 -- A drain of the bus that lags is such a call, of the frames and records that it hands over: where these are the front of what
--- was emitted, as each bus in hand tells of its drain, the rest stays.
+-- was emitted, as each bus in hand shows of its drain, the rest stays.
 abbrev pub DrainsFromFront : {S V : Type 0} → ChipMeaning S → ChipSaving S V → Type 0
 DrainsFromFront {S} {V} chip saving =
     (bus : Lagging S) (records : List Record)

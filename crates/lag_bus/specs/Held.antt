@@ -9,13 +9,13 @@ use Rattle.chip_form.specs.declared.pages.ReachPages.{ReachPages}
 use Rattle.chip_form.specs.Samples.{SamplesResult, samples, in_mask}
 use Rattle.chip_form.specs.ChipMeaning.{ChipMeaning}
 use Rattle.trace_form.specs.Rooms.{frame_room, record_room}
-use Rattle.chip_form.specs.Limits.{most_samples_of_batch, most_samples_of_chip}
+use Rattle.chip_form.specs.Limits.{max_samples_of_batch, max_samples_of_chip}
 use Rattle.lag_bus.specs.Each.{Each}
 use Rattle.lag_bus.specs.Merge.{merge}
 use Rattle.lock_step.specs.SampleNumbers.{sample_number}
 use Rattle.lag_bus.specs.Ready.{is_before_sample}
 use Rattle.lag_bus.specs.Late.{Late}
-use Rattle.lag_bus.specs.declared.known.KnownReach.{KnownReach}
+use Rattle.lag_bus.specs.declared.known.ReachCache.{ReachCache}
 use Rattle.lag_bus.specs.Book.{may_be_read}
 
 pub record Held (S : Type 0) : Type 0 where
@@ -57,8 +57,8 @@ late_of chip h = record {
 -- what always holds of it
 pub record IsHeld {S : Type 0} (chip : ChipMeaning S) (h : Held S) : Type 0 where
   pub is_valid : chip.is_valid h.state ≡ true
-  pub pending : h.pending ≤ most_samples_of_batch
-  pub number_fits : h.number + h.pending ≤ most_samples_of_chip
+  pub pending : h.pending ≤ max_samples_of_batch
+  pub number_fits : h.number + h.pending ≤ max_samples_of_chip
   -- an event came after the first of the pending samples, and before the next sample
   pub after_first : Each (λ event. h.number < sample_number event) h.ring
   pub before_next : Each (λ event. is_before_sample (h.number + h.pending) event ≡ true) h.ring
@@ -76,7 +76,7 @@ abbrev pub AreMarks : (IsOfKind : (page : ℕ) → Type 0) → (marks : List ℕ
 AreMarks IsOfKind marks = (page : ℕ) → 0 < slice_index_or marks page 0 → IsOfKind page × (slice_index_or marks page 0 ≤ end_of_memory_alone page)
 
 -- what was asked of a reach, and not dropped, is so
-pub record IsKnown (reach : ReachPages) (known : KnownReach) : Type 0 where
+pub record IsKnown (reach : ReachPages) (known : ReachCache) : Type 0 where
   pub entangled : IfSome known.entangled (λ is_entangled. is_entangled ≡ reach.entangled)
   -- samples to come don't write a page that is marked as unwritten
   pub unwritten : AreMarks (λ page. set.contains reach.write_pages page ≡ false) known.unwritten
@@ -89,18 +89,18 @@ pub record IsKnown (reach : ReachPages) (known : KnownReach) : Type 0 where
   pub none : known.is_any ≡ false → (known.entangled ≡ None) × AreMarks (λ page. ⊥) known.unwritten × AreMarks (λ page. ⊥) known.unread
 
 -- A page becomes the one that is marked last, and the one that was so the other one. What is kept is the same, and of no more pages if it was of these two.
-pub record IsPutLast (old : KnownReach) (page : ℕ) (new : KnownReach) : Type 0 where
+pub record IsPutLast (old : ReachCache) (page : ℕ) (new : ReachCache) : Type 0 where
   pub same : new ≡ record old { is_few = new.is_few; page = page; other = new.other }
   pub few : new.is_few ≡ true → (old.is_few ≡ true)
       × ((place : ℕ) → 0 < slice_index_or old.unwritten place 0 → (place ≡ old.page) ⊎ (place ≡ old.other) → (place ≡ page) ⊎ (place ≡ new.other))
 
 -- what was asked of a reach is answered, and what is kept of it is so
-pub record IsAnswered {A : Type 0} (reach : ReachPages) (kept : KnownReach) (question : ReachPages → A) (result : A) : Type 0 where
+pub record IsAnswered {A : Type 0} (reach : ReachPages) (kept : ReachCache) (question : ReachPages → A) (result : A) : Type 0 where
   pub answer : result ≡ question reach
   pub known : IsKnown reach kept
 
 -- what is kept of a reach is so, and of any other reach too where samples may read the byte at an address: a write to it may change the reach
-pub record IsKeptThroughWrite (reach : ReachPages) (at : ℕ) (kept : KnownReach) : Type 0 where
+pub record IsKeptThroughWrite (reach : ReachPages) (at : ℕ) (kept : ReachCache) : Type 0 where
   pub known : IsKnown reach kept
   pub any : may_be_read reach at ≡ true → (other : ReachPages) → IsKnown other kept
 

@@ -1,10 +1,10 @@
 -- What a bus that lags shows of what it has, and what always holds of this.
 use Rattle.std.specs.Prelude.{◌≡◌, ℕ, ◌+◌, ◌-◌, ◌*◌, ◌/◌, ◌<◌, ◌≤◌}
-use Rattle.spc700_exec.specs.Bus.{most_calls}
+use Rattle.spc700_exec.specs.Bus.{max_calls}
 use Rattle.ports_timers.specs.declared.io.Io.{Io}
 use Rattle.lock_step.specs.declared.counts.Counts.{Counts}
 use Rattle.trace_form.specs.Rooms.{event_room}
-use Rattle.chip_form.specs.Limits.{most_samples_of_batch, most_samples_of_chip}
+use Rattle.chip_form.specs.Limits.{max_samples_of_batch, max_samples_of_chip}
 use Rattle.lag_bus.specs.Book.{AddsUp}
 use Rattle.lag_bus.specs.Lagging.{Lagging}
 use Rattle.lag_bus.specs.Late.{Late}
@@ -32,11 +32,11 @@ lagging_of late io clock counts calls = record {
 pub record IsLagging {S : Type 0} (late : Late S) (counts : Counts) (clock calls : ℕ) : Type 0 where
   pub same_batches : late.batches ≡ counts.batches
   pub same_due : late.due ≡ clock / CYCLES_PER_SAMPLE
-  pub pending : late.pending < most_samples_of_batch
+  pub pending : late.pending < max_samples_of_batch
   pub events : late.events ≤ event_room
   -- each call takes room for at most a frame and eight records, beside what the pending samples and the events took before
-  pub frames : late.frames_used ≤ most_samples_of_batch - 1 + calls
-  pub records : late.records_used ≤ event_room + 8 * (most_samples_of_batch - 1) + 8 * calls
+  pub frames : late.frames_used ≤ max_samples_of_batch - 1 + calls
+  pub records : late.records_used ≤ event_room + 8 * (max_samples_of_batch - 1) + 8 * calls
   pub adds_up : AddsUp counts
-  pub time : clock < CYCLES_PER_SAMPLE * (most_samples_of_chip + 1)
-  pub few : calls ≤ most_calls
+  pub time : clock < CYCLES_PER_SAMPLE * (max_samples_of_chip + 1)
+  pub few : calls ≤ max_calls

@@ -32,7 +32,7 @@ pub record HasNumbersOfBook {S : Type 0} (bus : Lagging S) : Type 0 where
   pub sample : bus.chip_sample ≡ samples_due bus.machine - bus.book.pending
   pub total : bus.chip_total ≡ bus.book.total
 
--- what each bus in hand tells of its chip
+-- what each bus in hand shows of its chip
 pub record MatchesBook {S : Type 0} (bus : Lagging S) : Type 0 where
   pub numbers : HasNumbersOfBook bus
   pub pending : bus.book.pending ≤ samples_due bus.machine

@@ -7,7 +7,7 @@ use Rattle.trace_form.specs.declared.record.Record.{Record}
 use Rattle.chip_form.specs.declared.pages.ReachPages.{ReachPages}
 use Rattle.chip_form.specs.Samples.{samples, in_mask}
 use Rattle.chip_form.specs.ChipMeaning.{ChipMeaning}
-use Rattle.chip_form.specs.Limits.{most_samples_of_batch}
+use Rattle.chip_form.specs.Limits.{max_samples_of_batch}
 use Rattle.lag_bus.specs.Book.{may_be_read, may_be_written}
 
 pub record Late (S : Type 0) : Type 0 where
@@ -63,12 +63,12 @@ late_with_samples chip late fallen =
 -- more than one batch with them.
 abbrev pub AreWritesWithin : {S : Type 0} → ChipMeaning S → ReachPages → (pending due : ℕ) → S → (memory : List ℕ) → Type 0
 AreWritesWithin chip reach pending due state memory =
-    (fallen at : ℕ) → pending + fallen ≤ most_samples_of_batch → may_be_written reach at ≡ false
+    (fallen at : ℕ) → pending + fallen ≤ max_samples_of_batch → may_be_written reach at ≡ false
     → byte_at (samples chip.one_sample fallen due state memory).memory at ≡ byte_at memory at
 
 -- Samples to come read where the reach before the pending ones says: a byte put elsewhere is put into what they leave, and else changes nothing.
 abbrev pub AreReadsWithin : {S : Type 0} → ChipMeaning S → ReachPages → (pending due : ℕ) → S → (memory : List ℕ) → Type 0
 AreReadsWithin chip reach pending due state memory =
-    (fallen at value : ℕ) → pending + fallen ≤ most_samples_of_batch → may_be_read reach at ≡ false
+    (fallen at value : ℕ) → pending + fallen ≤ max_samples_of_batch → may_be_read reach at ≡ false
     → samples chip.one_sample fallen due state (with_byte memory at value)
     ≡ record (samples chip.one_sample fallen due state memory) { memory = with_byte (samples chip.one_sample fallen due state memory).memory at value }

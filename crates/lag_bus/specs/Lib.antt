@@ -25,7 +25,7 @@ pub mod Merge
 pub mod Each
 -- what always holds of a bus over such a chip
 pub mod IsLagging
--- Rounds that only wait:
+-- Iterations that only wait:
 -- the bus after cycles in which it is only looked at
 pub mod Waiting
 -- The clock with the ports and timers, of which no promise speaks

@@ -1,8 +1,8 @@
 -- A bus while the processor runs on it: its clock and the number of its calls are kept beside it.
 use Rattle.std.specs.Prelude.{◌≤◌, ◌<◌, ◌⊎◌, ℕ, ◌+◌, ◌-◌, ◌*◌, ◌/◌}
-use Rattle.spc700_exec.specs.Bus.{BusMeaning, most_calls}
+use Rattle.spc700_exec.specs.Bus.{BusMeaning, max_calls}
 use Rattle.ports_timers.specs.Io.{after_ticks_of}
-use Rattle.chip_form.specs.Limits.{most_samples_of_batch, most_samples_of_chip}
+use Rattle.chip_form.specs.Limits.{max_samples_of_batch, max_samples_of_chip}
 use Rattle.chip_form.specs.ChipMeaning.{ChipMeaning}
 use Rattle.lock_step.specs.LockStep.{samples_due}
 use Rattle.lag_bus.specs.Lagging.{Lagging}
@@ -35,14 +35,14 @@ IsDrained bus = NoneIsReady bus.book.pending bus.chip_sample bus.machine.frames 
 -- have room for those that fell due: each had a call of its own, or all that can be handed over had been.
 pub record IsBehind {S : Type 0} (clock calls : ℕ) (bus : Lagging S) : Type 0 where
   pub earlier : bus.machine.clock ≤ clock
-  pub free : bus.book.pending + fallen_at clock bus < most_samples_of_batch
+  pub free : bus.book.pending + fallen_at clock bus < max_samples_of_batch
   pub counted : (bus.machine.calls + fallen_at clock bus ≤ calls) ⊎ IsDrained bus
-  pub few : calls ≤ most_calls
-  pub fits : clock / CYCLES_PER_SAMPLE ≤ most_samples_of_chip
+  pub few : calls ≤ max_calls
+  pub fits : clock / CYCLES_PER_SAMPLE ≤ max_samples_of_chip
 
 -- It may be left behind up to such a moment: before it, fewer samples are pending than one batch has at most, and the run isn't at its end.
 pub record MayFallBehind {S : Type 0} (until samples : ℕ) (bus : Lagging S) : Type 0 where
-  pub free : bus.book.pending + fallen_at (until - 1) bus < most_samples_of_batch
+  pub free : bus.book.pending + fallen_at (until - 1) bus < max_samples_of_batch
   pub before_end : until ≤ CYCLES_PER_SAMPLE * samples
 
 -- a bus in hand, which one it is, and the samples of the run that it is in hand for

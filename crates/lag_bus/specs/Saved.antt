@@ -1,6 +1,6 @@
 -- What is saved of a bus beside its memory, and a bus once that is loaded.
 use Rattle.std.specs.Prelude.{◌≡◌, ◌≤◌, ℕ, ◌/◌, List, []}
-use Rattle.chip_form.specs.Limits.{most_samples_of_chip}
+use Rattle.chip_form.specs.Limits.{max_samples_of_chip}
 use Rattle.chip_form.specs.ChipMeaning.{ChipMeaning}
 use Rattle.chip_form.specs.ChipSaving.{ChipSaving}
 use Rattle.lock_step.specs.Machine.{Machine}
@@ -17,7 +17,7 @@ saved_bus saving m = record { io = m.io; clock = m.clock; chip = saving.saved m.
 -- What can be loaded, as all that is saved: the clock stands before the chip's next sample, and the chip may still make it.
 pub record CanBeLoaded {S V : Type 0} (saving : ChipSaving S V) (saved : BusState V) : Type 0 where
   pub number : saved.clock / CYCLES_PER_SAMPLE ≡ saving.number saved.chip
-  pub few : saved.clock / CYCLES_PER_SAMPLE ≤ most_samples_of_chip
+  pub few : saved.clock / CYCLES_PER_SAMPLE ≤ max_samples_of_chip
 
 -- A machine once what was saved is loaded over a memory: its mask stays, and the fixed part of its chip. Nothing is emitted.
 abbrev pub loaded_machine : {S V : Type 0} → ChipSaving S V → Machine S → BusState V → (memory : List ℕ) → Machine S

@@ -10,20 +10,20 @@ use Rattle.lock_step.specs.LockStep.{samples_due, bus_answer}
 use Rattle.lag_bus.specs.Book.{may_be_written}
 use Rattle.lag_bus.specs.Lagging.{Lagging, lagging, with_book, HasNumbersOfBook}
 use Rattle.lag_bus.specs.Late.{AreWritesWithin}
-use Rattle.chip_form.specs.Limits.{most_samples_of_batch}
+use Rattle.chip_form.specs.Limits.{max_samples_of_batch}
 use Rattle.ports_timers.specs.Zeros.{counter_is_0, zeros_stay, AreTimers}
-use Rattle.idle_rounds.specs.Looking.{look_of_steps, after_n_steps}
+use Rattle.idle_loops.specs.Looking.{peek_of_steps, after_n_steps}
 use Rattle.spc700_exec.specs.declared.cpu.Cpu.{Cpu}
 use Rattle.spc700_exec.specs.declared.bus.TheConstants.{CYCLES_PER_SAMPLE}
 
 -- Whether a read only looks, so that it has the same answer while cycles pass: it is of no register of the chip, no sample
 -- pending or to come writes there, and an output counter that is read is 0.
-abbrev pub only_looks : ReachPages → Io → (at : ℕ) → Bool
-only_looks reach io at = not (at == 0xF3) && not (may_be_written reach at) && counter_is_0 io at
+abbrev pub only_peeks : ReachPages → Io → (at : ℕ) → Bool
+only_peeks reach io at = not (at == 0xF3) && not (may_be_written reach at) && counter_is_0 io at
 
 -- the byte that such a read sees
 abbrev pub byte_seen : {S : Type 0} → ChipMeaning S → Lagging S → (at : ℕ) → Option ℕ
-byte_seen chip bus at = if only_looks bus.book.reach bus.machine.io at then Some (bus_answer chip bus.machine at) else None
+byte_seen chip bus at = if only_peeks bus.book.reach bus.machine.io at then Some (bus_answer chip bus.machine at) else None
 
 -- the samples that fall due from one moment of the clock to a later one
 abbrev pub samples_between : (from to : ℕ) → ℕ
@@ -66,16 +66,16 @@ pub record IsKept {S : Type 0} (chip : ChipMeaning S) (bus : Lagging S) : Type 0
   pub numbers : HasNumbersOfBook bus
   pub writes : AreWritesWithin chip bus.book.reach bus.book.pending (samples_due bus.machine) bus.machine.chip bus.machine.memory
 
--- Over cycles in which no counter that is 0 leaves 0, and at whose end fewer samples are pending than one batch has at most, rounds of
+-- Over cycles in which no counter that is 0 leaves 0, and at whose end fewer samples are pending than one batch has at most, iterations of
 -- steps that only look bring the registers back, and the bus to where their cycles alone bring it, but for the number of its calls.
-abbrev pub LeavesCyclesOfRounds : {S : Type 0} → ChipMeaning S → Type 0
-LeavesCyclesOfRounds {S} chip =
-    (bus : Lagging S) (most rounds steps cycles : ℕ) (cpu : Cpu)
+abbrev pub LeavesCyclesOfIterations : {S : Type 0} → ChipMeaning S → Type 0
+LeavesCyclesOfIterations {S} chip =
+    (bus : Lagging S) (most iterations steps cycles : ℕ) (cpu : Cpu)
     → IsKept chip bus
     → AreTimers bus.machine.io
     → zeros_stay bus.machine.io bus.machine.clock most ≡ true
-    → bus.book.pending + samples_in bus.machine.clock most < most_samples_of_batch
-    → look_of_steps (byte_seen chip bus) steps cpu ≡ Some (cpu, cycles)
-    → rounds * cycles ≤ most
-    → let there = after_n_steps (lagging chip) (rounds * steps) (cpu, bus) in
-    (there.0 ≡ cpu) × (without_calls there.1 ≡ without_calls (after_wait chip bus (rounds * cycles)))
+    → bus.book.pending + samples_in bus.machine.clock most < max_samples_of_batch
+    → peek_of_steps (byte_seen chip bus) steps cpu ≡ Some (cpu, cycles)
+    → iterations * cycles ≤ most
+    → let there = after_n_steps (lagging chip) (iterations * steps) (cpu, bus) in
+    (there.0 ≡ cpu) × (without_calls there.1 ≡ without_calls (after_wait chip bus (iterations * cycles)))

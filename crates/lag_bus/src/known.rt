@@ -9,10 +9,10 @@ use aram_core::{Aram, PAGE_COUNT, page_of};
 use chip_form::Chip;
 
 /// What was asked of a chip's reach since it was dropped: whether it is entangled, and marks of the pages that no sample writes by
-/// it, and of those that none reads. The mark of a page is where memory alone ends on it, so that one comparison tells most
+/// it, and of those that none reads. The mark of a page is where memory alone ends on it, so that one comparison shows most
 /// addresses; 0 is no mark.
 #[derive(Drop)]
-pub struct KnownReach {
+pub struct ReachCache {
     /// Whether anything of it was kept.
     is_any: bool,
     /// Whether no more was kept than the marks of two pages as unwritten.
@@ -33,12 +33,12 @@ fn end_of_memory_alone(page: u8) -> u16
     if page == 0 { 0xF0 } else { 0xFFC0 }
 }
 
-impl KnownReach {
+impl ReachCache {
     /// Nothing was asked.
     pub fn none() -> Self
         ensures { (reach : ReachPages) → IsKnown reach result }
     {
-        KnownReach {
+        ReachCache {
             is_any: false,
             is_few: true,
             page: 0,
@@ -52,7 +52,7 @@ impl KnownReach {
     /// Drops all of it, so that it is asked anew.
     // In line with writes and batches: where nothing was asked it is one test.
     #[inline]
-    pub fn forget(&mut self)
+    pub fn invalidate(&mut self)
         ensures { (before after : ReachPages) → IsKnown before self.old → IsKnown after self.new }
     {
         if self.is_any {
@@ -79,7 +79,7 @@ impl KnownReach {
         self.ask_written(chip, memory, page);
     }
 
-    /// Whether a mark tells that memory alone is at an address, which no sample writes. A `false` is free: no clause
+    /// Whether a mark shows that memory alone is at an address, which no sample writes. `false` may come at any time: no clause
     /// says when it comes, and whoever gets it asks the chip.
     #[inline(always)]
     pub fn is_unwritten_memory(&self, at: u16) -> bool
@@ -89,7 +89,7 @@ impl KnownReach {
         at < self.unwritten[usize::from(page_of(at))]
     }
 
-    /// Whether the page of an address is marked as one that no sample writes. A `false` is free: no clause says when it
+    /// Whether the page of an address is marked as one that no sample writes. `false` may come at any time: no clause says when it
     /// comes, and whoever gets it asks the chip.
     #[inline]
     pub fn is_unwritten(&self, at: u16) -> bool
@@ -98,7 +98,7 @@ impl KnownReach {
         0 < self.unwritten[usize::from(page_of(at))]
     }
 
-    /// Whether a mark tells that memory alone is at an address, which no sample reads. A `false` is free: no clause
+    /// Whether a mark shows that memory alone is at an address, which no sample reads. `false` may come at any time: no clause
     /// says when it comes, and whoever gets it asks the chip.
     #[inline(always)]
     pub fn is_unread_memory(&self, at: u16) -> bool
@@ -193,9 +193,9 @@ impl KnownReach {
         ensures { IsKeptThroughWrite (C.meaning.reach (C.state chip.now) memory.now) at self.new }
     {
         if self.is_few {
-            self.forget();
+            self.invalidate();
         } else if self.may_be_read(chip, memory, at) {
-            self.forget();
+            self.invalidate();
         }
     }
 }

@@ -1,11 +1,11 @@
 // A bus that makes samples late, many at once.
 ghost use Rattle.std.specs.Prelude.{◌≡◌, ◌+◌, ◌*◌, ◌/◌, ◌-◌, ◌<◌, ◌≤◌, ◌%◌, ◌++◌, ◌∷◌, [], ◌==◌, unwrap_or, ◌||◌, not, true, false, length, if◌then◌else◌, IfOk};
 ghost use Rattle.aram_core.specs.Memory.{byte_at, with_byte};
-ghost use Rattle.spc700_exec.specs.Bus.{most_calls};
+ghost use Rattle.spc700_exec.specs.Bus.{max_calls};
 ghost use Rattle.chip_form.specs.Samples.{count_after};
 ghost use Rattle.trace_form.specs.Rooms.{record_room, event_room};
-ghost use Rattle.num_fix.specs.Limits.{most_frames};
-ghost use Rattle.chip_form.specs.Limits.{most_samples_of_batch};
+ghost use Rattle.num_fix.specs.Limits.{max_frames};
+ghost use Rattle.chip_form.specs.Limits.{max_samples_of_batch};
 ghost use Rattle.lock_step.specs.Machine.{opened_machine};
 ghost use Rattle.lock_step.specs.LockStep.{samples_due, writes_register, writes_port, write_records};
 ghost use Rattle.lag_bus.specs.Ready.{ready_frames, ready_records};
@@ -19,34 +19,34 @@ ghost use Rattle.lag_bus.specs.Waiting.{byte_seen, samples_in};
 ghost use Rattle.lag_bus.specs.Held.{IsMemoryAlone};
 
 use crate::OutOfMemory;
-use crate::behind::BehindBus;
+use crate::behind::DeferredBus;
 use crate::cause::Cause;
 use crate::clocked::ClockedIo;
 use crate::counting::{counts_with_batch, no_counts};
-use crate::late::{LateChip, is_in_hand};
+use crate::late::{DeferredChip, is_in_hand};
 use crate::running::take_steps;
 use crate::saved::BusState;
-use crate::waiting::{counter_is_0, pend_all};
+use crate::waiting::{counter_is_0, queue_all};
 use aram_core::Aram;
 use chip_form::Chip;
-use idle_rounds::{Looks, try_round};
+use idle_loops::{ReadOnlyBus, try_iteration};
 use lock_step::{Counts, DrainedBus, writes_port, writes_register};
 use num_fix::BATCH_SIZE;
 use ports_timers::{Io, cycles_of_zeros};
 use spc_form::OpenState;
-use spc700_exec::{Bus, CYCLES_PER_SAMPLE, Cpu, MOST_CALLS_BEFORE_STEP, step};
+use spc700_exec::{Bus, CYCLES_PER_SAMPLE, Cpu, MAX_CALLS_BEFORE_STEP, step};
 use std::alloc::Global;
 use std::marker::Model;
 use trace_form::{EventRing, Frames, Record, Records};
 
 /// The most samples that wait, which are then made as one batch.
-const MOST_PENDING: u8 = BATCH_SIZE as u8;
+const MAX_PENDING: u8 = BATCH_SIZE as u8;
 
 /// A bus over a chip whose samples wait, at most 64 of them, until something needs them, and are then made as one batch.
 /// What is emitted waits in it for the next drain.
 #[derive(Drop)]
 pub struct LagBus<C: Chip> {
-    late: LateChip<C>,
+    late: DeferredChip<C>,
     time: ClockedIo,
     counts: Counts,
 }
@@ -70,7 +70,7 @@ impl<C: Chip> Model for LagBus<C> {
 // Out of line, as all that is rarer than an access: what each access runs stays small.
 #[inline(never)]
 #[tactic(auto, using(crate::proofs::CountsAddUp::adds_up))]
-fn settle_for<C: Chip>(late: &mut LateChip<C>, counts: &mut Counts, cause: Cause)
+fn settle_for<C: Chip>(late: &mut DeferredChip<C>, counts: &mut Counts, cause: Cause)
     requires { 0 < late.old.pending }
     ensures late { late.new ≡ record late.old {
       pending = 0;
@@ -103,7 +103,7 @@ impl<C: Chip> LagBus<C> {
         let voices = Records::new(alloc)?;
         let ring = EventRing::new(alloc)?;
         Ok(LagBus {
-            late: LateChip::new(chip, opening.memory, mask, frames, records, voices, ring),
+            late: DeferredChip::new(chip, opening.memory, mask, frames, records, voices, ring),
             time: ClockedIo::new(Io::from_cells(opening.cells, opening.rom), 0),
             counts: no_counts(),
         })
@@ -126,7 +126,7 @@ impl<C: Chip> LagBus<C> {
     /// The samples that the chip hasn't made yet.
     pub fn pending(&self) -> u8
         ensures pending { result ≡ self.now.book.pending }
-        ensures few { result ≤ most_samples_of_batch }
+        ensures few { result ≤ max_samples_of_batch }
     {
         self.late.pending()
     }
@@ -195,7 +195,7 @@ impl<C: Chip> LagBus<C> {
     // Out of line, as what is rarer than an access of memory alone.
     #[inline(never)]
     fn read_register(&mut self) -> u8
-        requires { self.old.machine.calls < most_calls }
+        requires { self.old.machine.calls < max_calls }
         ensures answer { result ≡ ((lagging C.meaning).read self.old 0xF3).0 }
         ensures next { self.new ≡ ((lagging C.meaning).read self.old 0xF3).1 }
     {
@@ -206,16 +206,16 @@ impl<C: Chip> LagBus<C> {
                 settle_for(&mut self.late, &mut self.counts, cause);
             }
         }
-        let told = self.time.read(0xF3);
-        answer_of(&self.late, address, told, 0xF3)
+        let known = self.time.read(0xF3);
+        answer_of(&self.late, address, known, 0xF3)
     }
 
-    /// A read of an address of which no mark tells anything.
+    /// A read of an address of which no mark shows anything.
     // Out of line, as what is rarer than an access of memory alone.
     #[inline(never)]
     #[tactic(auto, using(crate::proofs::PassesInHand::alone_apart))]
     fn read_unmarked(&mut self, addr: u16) -> u8
-        requires { self.old.machine.calls < most_calls }
+        requires { self.old.machine.calls < max_calls }
         ensures answer { result ≡ ((lagging C.meaning).read self.old addr).0 }
         ensures next { self.new ≡ ((lagging C.meaning).read self.old addr).1 }
     {
@@ -230,8 +230,8 @@ impl<C: Chip> LagBus<C> {
             return self.late.get(addr);
         }
         let address = self.time.dsp_address();
-        let told = self.time.read(addr);
-        answer_of(&self.late, address, told, addr)
+        let known = self.time.read(addr);
+        answer_of(&self.late, address, known, addr)
     }
 
     /// A read that is first looked at as one of memory alone while nothing is pending. Where each sample is a batch, as with an echo that
@@ -239,7 +239,7 @@ impl<C: Chip> LagBus<C> {
     #[inline(always)]
     #[tactic(auto, using(crate::proofs::PassesInHand::alone_apart))]
     fn read_memory_first(&mut self, addr: u16) -> u8
-        requires { self.old.machine.calls < most_calls }
+        requires { self.old.machine.calls < max_calls }
         ensures answer { result ≡ ((lagging C.meaning).read self.old addr).0 }
         ensures next { self.new ≡ ((lagging C.meaning).read self.old addr).1 }
     {
@@ -253,14 +253,14 @@ impl<C: Chip> LagBus<C> {
     /// Cycles for which it can be waited before the end of a run to so many samples.
     fn cycles_to_wait(&self, samples: u32) -> u64
         requires more { samples_due self.now.machine < samples }
-        requires few { samples ≤ most_frames }
+        requires few { samples ≤ max_frames }
         ensures zeros { zeros_stay self.now.machine.io self.now.machine.clock result ≡ true }
-        ensures free { self.now.book.pending + samples_in self.now.machine.clock result < most_samples_of_batch }
+        ensures free { self.now.book.pending + samples_in self.now.machine.clock result < max_samples_of_batch }
         ensures below { (self.now.machine.clock + result) / CYCLES_PER_SAMPLE < samples }
         ensures timers { AreTimers self.now.machine.io }
     {
         let clock = self.time.clock();
-        let free = CYCLES_PER_SAMPLE * u64::from(MOST_PENDING - self.late.pending())
+        let free = CYCLES_PER_SAMPLE * u64::from(MAX_PENDING - self.late.pending())
             - 1
             - clock % CYCLES_PER_SAMPLE;
         let rest = CYCLES_PER_SAMPLE * u64::from(samples) - 1 - clock;
@@ -271,7 +271,7 @@ impl<C: Chip> LagBus<C> {
     // Out of line, as what is rarer than an access of memory alone.
     #[inline(never)]
     fn write_io(&mut self, addr: u16, value: u8)
-        requires { self.old.machine.calls < most_calls }
+        requires { self.old.machine.calls < max_calls }
         ensures { self.new ≡ (lagging C.meaning).write self.old addr value }
     {
         self.time.count();
@@ -301,23 +301,23 @@ fn is_memory_alone(addr: u16) -> bool
     }
 }
 
-/// The answer of a read for which no pending sample is needed, by what the ports and timers tell, if they do.
-fn answer_of<C: Chip>(late: &LateChip<C>, address: u8, told: Option<u8>, at: u16) -> u8
+/// The answer of a read for which no pending sample is needed, by what the ports and timers show, if they do.
+fn answer_of<C: Chip>(late: &DeferredChip<C>, address: u8, known: Option<u8>, at: u16) -> u8
     requires memory { (late.now.pending == 0 || not (may_be_written late.now.reach at)) ≡ true }
     requires register { at ≡ 0xF3 → (late.now.pending == 0 || not (C.meaning.is_result (address % 0x80))) ≡ true }
-    ensures { result ≡ if at == 0xF3 then C.meaning.register_read late.now.chip (address % 0x80) else unwrap_or told (byte_at late.now.memory at) }
+    ensures { result ≡ if at == 0xF3 then C.meaning.register_read late.now.chip (address % 0x80) else unwrap_or known (byte_at late.now.memory at) }
 {
     if at == 0xF3 {
         return late.reg_read(address % 0x80);
     }
-    match told {
+    match known {
         Some(byte) => byte,
         None => late.get(at),
     }
 }
 
 /// What a write does while no sample is pending.
-fn write_now<C: Chip>(late: &mut LateChip<C>, address: u8, at: u16, value: u8, sample: u32)
+fn write_now<C: Chip>(late: &mut DeferredChip<C>, address: u8, at: u16, value: u8, sample: u32)
     requires none { late.old.pending ≡ 0 }
     requires sample { sample ≡ late.old.due }
     requires room { late.old.records_used < record_room }
@@ -350,7 +350,7 @@ fn write_now<C: Chip>(late: &mut LateChip<C>, address: u8, at: u16, value: u8, s
 }
 
 /// What a write does for which no pending sample is needed.
-fn write_beside_pending<C: Chip>(late: &mut LateChip<C>, at: u16, value: u8, sample: u32)
+fn write_beside_pending<C: Chip>(late: &mut DeferredChip<C>, at: u16, value: u8, sample: u32)
     requires free { may_be_read late.old.reach at ≡ false }
     requires some { 0 < late.old.pending }
     requires ring { writes_port at ≡ true → late.old.events < event_room }
@@ -385,8 +385,8 @@ impl<C: Chip> Bus for LagBus<C> {
         }
         self.time.count();
         let address = self.time.dsp_address();
-        let told = self.time.read(addr);
-        answer_of(&self.late, address, told, addr)
+        let known = self.time.read(addr);
+        answer_of(&self.late, address, known, addr)
     }
 
     fn write(&mut self, addr: u16, value: u8) {
@@ -406,8 +406,8 @@ impl<C: Chip> Bus for LagBus<C> {
         let from = self.time.clock();
         self.time.pass(cycles);
         if from / CYCLES_PER_SAMPLE < self.time.clock() / CYCLES_PER_SAMPLE {
-            self.late.pend();
-            if self.late.pending() == MOST_PENDING {
+            self.late.queue();
+            if self.late.pending() == MAX_PENDING {
                 settle_for(&mut self.late, &mut self.counts, Cause::Full);
             }
         }
@@ -421,7 +421,7 @@ impl<C: Chip> Bus for LagBus<C> {
 }
 
 // What each access in hand asks is in line with it.
-impl<C: Chip> BehindBus for LagBus<C> {
+impl<C: Chip> DeferredBus for LagBus<C> {
     type C = C;
 
     ghost shows = { λ bus. bus };
@@ -455,8 +455,8 @@ impl<C: Chip> BehindBus for LagBus<C> {
         self.time.calls()
     }
 
-    fn full_clock(&self) -> u64 {
-        let to_come = u64::from(MOST_PENDING - self.late.pending());
+    fn flush_deadline(&self) -> u64 {
+        let to_come = u64::from(MAX_PENDING - self.late.pending());
         CYCLES_PER_SAMPLE * (self.time.clock() / CYCLES_PER_SAMPLE + to_come)
     }
 
@@ -474,7 +474,7 @@ impl<C: Chip> BehindBus for LagBus<C> {
         self.late.holds_only_what_waits();
         let fallen = (clock / CYCLES_PER_SAMPLE - self.time.clock() / CYCLES_PER_SAMPLE) as u8;
         self.time.catch_up(clock, calls);
-        pend_all(&mut self.late, fallen);
+        queue_all(&mut self.late, fallen);
     }
 
     // Out of line and cold, as what is rarer than an access of memory alone: what a step keeps in registers is put away where it is called,
@@ -510,11 +510,11 @@ impl<C: Chip> BehindBus for LagBus<C> {
     }
 }
 
-impl<C: Chip> Looks for LagBus<C> {
+impl<C: Chip> ReadOnlyBus for LagBus<C> {
     ghost sees = { byte_seen C.meaning };
 
-    fn see(&self, addr: u16) -> Option<u8> {
-        // Mostly a mark tells that memory alone is there, and then no timer is asked.
+    fn peek(&self, addr: u16) -> Option<u8> {
+        // Mostly a mark shows that memory alone is there, and then no timer is asked.
         if self.late.is_unwritten_memory(addr) {
             return Some(self.late.get(addr));
         }
@@ -526,8 +526,8 @@ impl<C: Chip> Looks for LagBus<C> {
             return None;
         }
         let address = io.dsp_address();
-        let told = io.read(addr);
-        Some(answer_of(&self.late, address, told, addr))
+        let known = io.read(addr);
+        Some(answer_of(&self.late, address, known, addr))
     }
 }
 
@@ -543,26 +543,26 @@ impl<C: Chip> DrainedBus for LagBus<C> {
     }
 
     fn has_room_for_step(&self) -> bool {
-        self.time.calls() <= MOST_CALLS_BEFORE_STEP
+        self.time.calls() <= MAX_CALLS_BEFORE_STEP
     }
 
-    fn take_steps(&mut self, cpu: &mut Cpu, samples: u32, fillings: u8) -> u8 {
-        take_steps(self, cpu, samples, fillings)
+    fn take_steps(&mut self, cpu: &mut Cpu, samples: u32, drain_budget: u8) -> u8 {
+        take_steps(self, cpu, samples, drain_budget)
     }
 
     fn wait(&mut self, cpu: &Cpu, samples: u32) {
         if !self.late.is_drained() {
             return;
         }
-        let Some(round) = try_round(&*self, cpu) else {
+        let Some(iteration) = try_iteration(&*self, cpu) else {
             return;
         };
-        let rounds = self.cycles_to_wait(samples) / u64::from(round);
-        let cycles = rounds * u64::from(round);
+        let iterations = self.cycles_to_wait(samples) / u64::from(iteration);
+        let cycles = iterations * u64::from(iteration);
         let clock = self.time.clock();
         let fallen = ((clock + cycles) / CYCLES_PER_SAMPLE - clock / CYCLES_PER_SAMPLE) as u8;
         self.time.wait(cycles);
-        pend_all(&mut self.late, fallen);
+        queue_all(&mut self.late, fallen);
     }
 
     /// Makes the pending samples, as one batch.

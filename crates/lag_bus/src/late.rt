@@ -6,12 +6,12 @@ ghost use Rattle.lag_bus.specs.Book.{may_be_read, may_be_written, cause_of_read,
 ghost use Rattle.lag_bus.specs.Held.{IsMemoryAlone};
 ghost use Rattle.lag_bus.specs.Late.{late_with_sample, AreWritesWithin, AreReadsWithin};
 ghost use Rattle.trace_form.specs.Rooms.{frame_room, record_room, event_room};
-ghost use Rattle.chip_form.specs.Limits.{most_samples_of_batch, most_samples_of_chip};
+ghost use Rattle.chip_form.specs.Limits.{max_samples_of_batch, max_samples_of_chip};
 ghost use Rattle.lock_step.specs.SampleNumbers.{sample_number};
 ghost use Rattle.lag_bus.specs.Ready.{is_before_sample, ready_frames, waiting_frames, ready_records, waiting_records, NoneIsReady};
 
 use crate::cause::{self, Cause};
-use crate::known::KnownReach;
+use crate::known::ReachCache;
 use crate::merging::merge_into;
 use aram_core::{Aram, page_of};
 use chip_form::Chip;
@@ -22,19 +22,19 @@ use trace_form::{EVENT_ROOM, EventRing, Frames, Record, Records};
 /// A chip, its memory and its output, with samples that are counted and not made yet. Of its reach that is asked which an access
 /// needs, and what was found is kept until it may be another.
 #[derive(Drop)]
-pub struct LateChip<C: Chip> {
+pub struct DeferredChip<C: Chip> {
     chip: C,
     memory: Aram,
     mask: u8,
     pending: u8,
-    known: KnownReach,
+    known: ReachCache,
     frames: Frames,
     records: Records,
     voices: Records,
     ring: EventRing,
 }
 
-impl<C: Chip> Model for LateChip<C> {
+impl<C: Chip> Model for DeferredChip<C> {
     ghost use Rattle.lag_bus.specs.Late.{Late};
     ghost use Rattle.lag_bus.specs.Held.{late_of, IsHeld, IsKnown};
     ghost use Rattle.std.specs.Coded.{codes};
@@ -94,7 +94,7 @@ fn move_records(from: &mut Records, to: &mut Records)
 }
 
 /// A chip in hand is in a valid state, and the samples that it made in all are a number of 64 bits.
-// Nothing but the chip's own calls tells so.
+// Nothing but the chip's own calls shows so.
 #[inline]
 pub fn is_in_hand<C: Chip>(chip: &C)
     ensures valid { C.meaning.is_valid (C.state chip.now) ≡ true }
@@ -114,8 +114,8 @@ fn make_samples<C: Chip>(
     voice_records: &mut Records,
 )
     requires is_valid { C.meaning.is_valid (C.state chip.old) ≡ true }
-    requires few { n ≤ most_samples_of_batch }
-    requires number { C.sample chip.old + n ≤ most_samples_of_chip }
+    requires few { n ≤ max_samples_of_batch }
+    requires number { C.sample chip.old + n ≤ max_samples_of_chip }
     requires room { length frames.old + n ≤ frame_room }
     ensures made { let made = samples C.meaning.one_sample n (C.sample chip.old) (C.state chip.old) memory.old in
         AddsSamples mask made (C.state chip.new) memory.new frames.old frames.new [] voice_records.new }
@@ -127,7 +127,7 @@ fn make_samples<C: Chip>(
     chip.advance(n, memory, mask, frames, voice_records);
 }
 
-impl<C: Chip> LateChip<C> {
+impl<C: Chip> DeferredChip<C> {
     /// The chip in hand.
     pub fn chip(&self) -> &C
         ensures batches { C.batches result.now ≡ self.now.batches }
@@ -142,7 +142,7 @@ impl<C: Chip> LateChip<C> {
     #[inline]
     pub fn pending(&self) -> u8
         ensures pending { result ≡ self.now.pending }
-        ensures few { result ≤ most_samples_of_batch }
+        ensures few { result ≤ max_samples_of_batch }
         ensures reach { self.now.pending ≡ 0 → self.now.reach ≡ C.meaning.reach self.now.chip self.now.memory }
     {
         self.pending
@@ -166,7 +166,7 @@ impl<C: Chip> LateChip<C> {
         self.known.may_be_written(&self.chip, &self.memory, at)
     }
 
-    /// Whether a mark tells that memory alone is at an address and that no pending sample writes it.
+    /// Whether a mark shows that memory alone is at an address and that no pending sample writes it.
     #[inline(always)]
     pub fn is_unwritten_memory(&self, at: u16) -> bool
         ensures unwritten { result ≡ true → may_be_written self.now.reach at ≡ false }
@@ -175,7 +175,7 @@ impl<C: Chip> LateChip<C> {
         self.known.is_unwritten_memory(at)
     }
 
-    /// Whether a mark tells that memory alone is at an address and that no pending sample reads it.
+    /// Whether a mark shows that memory alone is at an address and that no pending sample reads it.
     #[inline(always)]
     pub fn is_unread_memory(&self, at: u16) -> bool
         ensures unread { result ≡ true → may_be_read self.now.reach at ≡ false }
@@ -184,7 +184,7 @@ impl<C: Chip> LateChip<C> {
         self.known.is_unread_memory(at)
     }
 
-    /// Whether a mark tells that no pending sample writes the byte at an address.
+    /// Whether a mark shows that no pending sample writes the byte at an address.
     #[inline]
     pub fn is_unwritten(&self, at: u16) -> bool
         ensures { result ≡ true → may_be_written self.now.reach at ≡ false }
@@ -192,7 +192,7 @@ impl<C: Chip> LateChip<C> {
         self.known.is_unwritten(at)
     }
 
-    /// Whether samples are pending that may write the byte at an address. Mostly a mark tells that they don't.
+    /// Whether samples are pending that may write the byte at an address. Mostly a mark shows that they don't.
     #[inline]
     pub fn pending_may_write(&mut self, at: u16) -> bool
         ensures answer { result ≡ (not (self.old.pending == 0) && may_be_written self.old.reach at) }
@@ -281,7 +281,7 @@ impl<C: Chip> LateChip<C> {
             self.new ≡ record self.old { chip = written; reach = C.meaning.reach written self.old.memory } }
     {
         self.chip.reg_write(address, value);
-        self.known.forget();
+        self.known.invalidate();
     }
 
     /// Emits the record of a write. While samples are pending it waits for them.
@@ -332,9 +332,9 @@ impl<C: Chip> LateChip<C> {
     }
 
     /// Counts one sample more.
-    pub fn pend(&mut self)
-        requires few { self.old.pending < most_samples_of_batch }
-        requires number { self.old.due < most_samples_of_chip }
+    pub fn queue(&mut self)
+        requires few { self.old.pending < max_samples_of_batch }
+        requires number { self.old.due < max_samples_of_chip }
         requires frames { self.old.frames_used < frame_room }
         requires records { self.old.records_used + 8 ≤ record_room }
         ensures { self.new ≡ late_with_sample C.meaning self.old }
@@ -364,7 +364,7 @@ impl<C: Chip> LateChip<C> {
         );
         merge_into(&self.voices, &mut self.ring, &mut self.records);
         self.pending = 0;
-        self.known.forget();
+        self.known.invalidate();
         self.known.mark_last(&self.chip, &self.memory);
     }
 
@@ -407,7 +407,7 @@ impl<C: Chip> LateChip<C> {
         requires pending { self.old.pending ≡ 0 }
         requires frames { self.old.frames ≡ [] }
         requires records { self.old.records ≡ [] }
-        requires number { C.saving.number saved.now ≤ most_samples_of_chip }
+        requires number { C.saving.number saved.now ≤ max_samples_of_chip }
         ensures { let loaded = C.saving.loaded self.old.chip saved.now in
             self.new ≡ record self.old {
               chip = loaded;
@@ -421,7 +421,7 @@ impl<C: Chip> LateChip<C> {
     {
         self.chip.load(saved);
         self.memory.copy_from(memory);
-        self.known = KnownReach::none();
+        self.known = ReachCache::none();
     }
 
     /// The samples that the chip made in all, those before a load too.
@@ -470,12 +470,12 @@ impl<C: Chip> LateChip<C> {
           records_used = 0;
         } }
     {
-        LateChip {
+        DeferredChip {
             chip,
             memory,
             mask,
             pending: 0,
-            known: KnownReach::none(),
+            known: ReachCache::none(),
             frames,
             records,
             voices,

@@ -17,7 +17,7 @@ mod waiting;
 pub use lag::LagBus;
 pub use laws::{
     a_lagging_bus_is_the_machine_in_lock_step, a_total_has_the_samples_made,
-    rounds_leave_their_cycles,
+    iterations_leave_their_cycles,
 };
 pub use saved::BusState;
 pub use std::alloc::AllocError as OutOfMemory;

@@ -1,9 +1,9 @@
 // A bus while the processor runs on it. Its calls are in line with the steps, so that its clock and its calls can be kept in registers.
 ghost use Rattle.std.specs.Prelude.{◌≡◌, ◌+◌, ◌*◌, ◌/◌, ◌<◌, ◌≤◌, nat_le, true, false};
 ghost use Rattle.std.proofs.Common.{refl};
-ghost use Rattle.num_fix.specs.Limits.{most_frames};
-ghost use Rattle.chip_form.specs.Limits.{most_samples_of_batch, most_samples_of_chip};
-ghost use Rattle.spc700_exec.specs.Bus.{most_calls, most_calls_before_step};
+ghost use Rattle.num_fix.specs.Limits.{max_frames};
+ghost use Rattle.chip_form.specs.Limits.{max_samples_of_batch, max_samples_of_chip};
+ghost use Rattle.spc700_exec.specs.Bus.{max_calls, max_calls_before_step};
 ghost use Rattle.spc700_exec.specs.Instruction.{step_outcome};
 ghost use Rattle.lock_step.specs.LockStep.{samples_due};
 ghost use Rattle.lock_step.specs.StepsOfRun.{AreStepsOf};
@@ -12,16 +12,16 @@ ghost use Rattle.lag_bus.specs.LagEmits.{lag_emits};
 ghost use Rattle.lag_bus.specs.Waiting.{without_calls};
 ghost use Rattle.lag_bus.specs.Running.{MayFallBehind, running};
 
-use crate::behind::BehindBus;
-use spc700_exec::{Bus, CYCLES_PER_SAMPLE, Cpu, MOST_CALLS_BEFORE_STEP, step_awake};
+use crate::behind::DeferredBus;
+use spc700_exec::{Bus, CYCLES_PER_SAMPLE, Cpu, MAX_CALLS_BEFORE_STEP, step_awake};
 use std::marker::Model;
 
 /// The most cycles of an instruction that doesn't halt the processor.
-const MOST_CYCLES: u64 = 12;
+const MAX_CYCLES: u64 = 12;
 
 /// A bus while the processor runs on it. The bus may be left behind up to a moment of the clock that comes after some cycles.
 #[derive(Drop)]
-pub(crate) struct RunningBus<'a, B: BehindBus> {
+pub(crate) struct CachedClockBus<'a, B: DeferredBus> {
     pub(crate) bus: &'a mut B,
     pub(crate) samples: u32,
     /// The moment up to which the bus may be left behind, or the clock.
@@ -31,7 +31,7 @@ pub(crate) struct RunningBus<'a, B: BehindBus> {
     pub(crate) calls: u8,
 }
 
-impl<'a, B: BehindBus> Model for RunningBus<'a, B> {
+impl<'a, B: DeferredBus> Model for CachedClockBus<'a, B> {
     ghost use Rattle.std.specs.Prelude.{◌-◌, ◌<◌, ◌≤◌};
     ghost use Rattle.std.specs.Coded.{codes};
     ghost use Rattle.aram_core.specs.contracts.page_set.PageSet as page_set;
@@ -55,29 +55,29 @@ impl<'a, B: BehindBus> Model for RunningBus<'a, B> {
 
 /// The moment up to which a bus may be left behind in a run to so many samples, or its clock where the run is at its end.
 #[inline(always)]
-fn moment_of<B: BehindBus>(bus: &B, samples: u32) -> u64
-    requires few { samples ≤ most_frames }
+fn moment_of<B: DeferredBus>(bus: &B, samples: u32) -> u64
+    requires few { samples ≤ max_frames }
     ensures clock { (B.shows bus.now).machine.clock ≤ result }
-    ensures pending { (B.shows bus.now).book.pending < most_samples_of_batch }
+    ensures pending { (B.shows bus.now).book.pending < max_samples_of_batch }
     ensures free { (B.shows bus.now).machine.clock < result → MayFallBehind result samples (B.shows bus.now) }
 {
-    bus.full_clock()
+    bus.flush_deadline()
         .min(CYCLES_PER_SAMPLE * u64::from(samples))
         .max(bus.clock())
 }
 
-impl<'a, B: BehindBus> RunningBus<'a, B> {
+impl<'a, B: DeferredBus> CachedClockBus<'a, B> {
     /// A bus in hand for a run to so many samples.
     #[inline(always)]
-    fn new(bus: &'a mut B, samples: u32) -> RunningBus<'a, B>
-        requires few { samples ≤ most_frames }
+    fn new(bus: &'a mut B, samples: u32) -> CachedClockBus<'a, B>
+        requires few { samples ≤ max_frames }
         ensures name { result.name ≡ bus.entry.ghost_name }
         ensures samples { result.samples ≡ samples }
         ensures bus { result.bus ≡ B.shows bus.old }
     {
         let until = moment_of(&*bus, samples);
         let (clock, calls) = (bus.clock(), bus.calls());
-        RunningBus {
+        CachedClockBus {
             bus,
             samples,
             until,
@@ -91,7 +91,7 @@ impl<'a, B: BehindBus> RunningBus<'a, B> {
     fn may_fall_behind(&self) -> bool
         ensures { result ≡ true → self.now.bus.machine.clock < CYCLES_PER_SAMPLE * self.now.samples }
     {
-        MOST_CYCLES < self.left
+        MAX_CYCLES < self.left
     }
 
     /// Whether the run is at its end.
@@ -106,9 +106,9 @@ impl<'a, B: BehindBus> RunningBus<'a, B> {
     /// Whether there is room for the calls of one more step.
     #[inline(always)]
     fn has_room_for_step(&self) -> bool
-        ensures { result ≡ nat_le self.now.bus.machine.calls most_calls_before_step }
+        ensures { result ≡ nat_le self.now.bus.machine.calls max_calls_before_step }
     {
-        self.calls <= MOST_CALLS_BEFORE_STEP
+        self.calls <= MAX_CALLS_BEFORE_STEP
     }
 
     /// Begins the calls anew, where nothing is to be drained but what waits for pending samples.
@@ -127,10 +127,10 @@ impl<'a, B: BehindBus> RunningBus<'a, B> {
     /// A pass on the bus itself, which catches up first.
     #[inline(always)]
     fn pass_on_bus(&mut self, cycles: u8)
-        requires room { self.old.bus.machine.calls < most_calls }
+        requires room { self.old.bus.machine.calls < max_calls }
         requires some { 1 ≤ cycles }
         requires few { cycles ≤ CYCLES_PER_SAMPLE }
-        requires time { samples_due self.old.bus.machine < most_samples_of_chip }
+        requires time { samples_due self.old.bus.machine < max_samples_of_chip }
         ensures { self.new ≡ record self.old { bus = (lagging B.C.meaning).pass self.old.bus cycles } }
     {
         let clock = self.until - self.left;
@@ -143,8 +143,8 @@ impl<'a, B: BehindBus> RunningBus<'a, B> {
     /// A step on the bus itself, which catches up first.
     #[inline(always)]
     fn step_on_bus(&mut self, cpu: &mut Cpu)
-        requires few { self.old.samples ≤ most_frames }
-        requires calls { self.old.bus.machine.calls ≤ most_calls_before_step }
+        requires few { self.old.samples ≤ max_frames }
+        requires calls { self.old.bus.machine.calls ≤ max_calls_before_step }
         requires more { samples_due self.old.bus.machine < self.old.samples }
         ensures does { (cpu.new, self.new.bus) ≡ step_outcome (lagging B.C.meaning) cpu.old self.old.bus }
         ensures name { self.new.name ≡ self.old.name }
@@ -162,9 +162,9 @@ impl<'a, B: BehindBus> RunningBus<'a, B> {
 /// One step, on the bus in hand or, close to the moment up to which the bus may be left behind, on the bus itself.
 // In line with the loop: where more cycles are left than an instruction has, the optimizer finds that none of its passes needs a test.
 #[inline(always)]
-fn step_once<'a, B: BehindBus>(cpu: &mut Cpu, running: &mut RunningBus<'a, B>)
-    requires few { running.old.samples ≤ most_frames }
-    requires calls { running.old.bus.machine.calls ≤ most_calls_before_step }
+fn step_once<'a, B: DeferredBus>(cpu: &mut Cpu, running: &mut CachedClockBus<'a, B>)
+    requires few { running.old.samples ≤ max_frames }
+    requires calls { running.old.bus.machine.calls ≤ max_calls_before_step }
     requires more { samples_due running.old.bus.machine < running.old.samples }
     requires awake { cpu.old.halted ≡ false }
     ensures does { (cpu.new, running.new.bus) ≡ step_outcome (lagging B.C.meaning) cpu.old running.old.bus }
@@ -184,19 +184,23 @@ fn step_once<'a, B: BehindBus>(cpu: &mut Cpu, running: &mut RunningBus<'a, B>)
 /// step. The answer is how many of these times are left.
 // In line with what takes the bus in hand, so that its clock and its calls may stay in registers from step to step.
 #[inline(always)]
-fn step_on<'a, B: BehindBus>(cpu: &mut Cpu, running: &mut RunningBus<'a, B>, fillings: u8) -> u8
-    requires calls { running.old.bus.machine.calls ≤ most_calls_before_step }
+fn step_on<'a, B: DeferredBus>(
+    cpu: &mut Cpu,
+    running: &mut CachedClockBus<'a, B>,
+    drain_budget: u8,
+) -> u8
+    requires calls { running.old.bus.machine.calls ≤ max_calls_before_step }
     requires more { samples_due running.old.bus.machine < running.old.samples }
-    requires few { running.old.samples ≤ most_frames }
+    requires few { running.old.samples ≤ max_frames }
     ensures name { running.new.name ≡ running.old.name }
     ensures steps { AreStepsOf (lagging B.C.meaning) (lag_emits B.C.meaning) running.old.samples cpu.old running.old.bus cpu.new running.new.bus }
     ensures some { running.old.bus.machine.clock < running.new.bus.machine.clock }
 {
     if cpu.halted {
         running.step_on_bus(cpu);
-        return fillings;
+        return drain_budget;
     }
-    let mut left = fillings;
+    let mut left = drain_budget;
     'steps: loop {
         if running.is_at_end() {
             break;
@@ -222,17 +226,22 @@ fn step_on<'a, B: BehindBus>(cpu: &mut Cpu, running: &mut RunningBus<'a, B>, fil
 /// Takes steps of the processor on a bus, one at least, until so many samples are due, the processor halts, or the room
 /// for calls is filled and something is to be drained or it was filled so many times before. Of a processor that has halted it is
 /// one step. The answer is how many of these times are left.
-pub(crate) fn take_steps<B: BehindBus>(bus: &mut B, cpu: &mut Cpu, samples: u32, fillings: u8) -> u8
-    requires calls { (B.shows bus.old).machine.calls ≤ most_calls_before_step }
+pub(crate) fn take_steps<B: DeferredBus>(
+    bus: &mut B,
+    cpu: &mut Cpu,
+    samples: u32,
+    drain_budget: u8,
+) -> u8
+    requires calls { (B.shows bus.old).machine.calls ≤ max_calls_before_step }
     requires more { samples_due (B.shows bus.old).machine < samples }
-    requires few { samples ≤ most_frames }
+    requires few { samples ≤ max_frames }
     ensures steps { AreStepsOf (lagging B.C.meaning) (lag_emits B.C.meaning) samples cpu.old (B.shows bus.old) cpu.new (B.shows bus.new) }
     ensures some { (B.shows bus.old).machine.clock < (B.shows bus.new).machine.clock }
 {
     // The registers stay in memory. In a copy a compiler would keep them in its own registers, and save and load these around each of 256 arms.
-    let mut running = RunningBus::new(bus, samples);
-    let fillings_left = step_on(cpu, &mut running, fillings);
-    let RunningBus {
+    let mut running = CachedClockBus::new(bus, samples);
+    let drain_budget_left = step_on(cpu, &mut running, drain_budget);
+    let CachedClockBus {
         bus: behind,
         samples: _,
         until,
@@ -240,10 +249,10 @@ pub(crate) fn take_steps<B: BehindBus>(bus: &mut B, cpu: &mut Cpu, samples: u32,
         calls,
     } = running;
     behind.catch_up(until - left, calls);
-    fillings_left
+    drain_budget_left
 }
 
-impl<'a, B: BehindBus> Bus for RunningBus<'a, B> {
+impl<'a, B: DeferredBus> Bus for CachedClockBus<'a, B> {
     ghost means = { running (lagging B.C.meaning) };
 
     #[inline(always)]

@@ -1,24 +1,24 @@
-// Rounds of a loop that only wait.
+// Iterations of a loop that only wait.
 ghost use Rattle.std.specs.Prelude.{◌≡◌, ◌+◌, ◌*◌, ◌≤◌};
 ghost use Rattle.ports_timers.specs.Zeros.{counter_is_0};
 ghost use Rattle.lag_bus.specs.Late.{late_with_samples};
 ghost use Rattle.trace_form.specs.Rooms.{frame_room, record_room};
-ghost use Rattle.chip_form.specs.Limits.{most_samples_of_batch, most_samples_of_chip};
+ghost use Rattle.chip_form.specs.Limits.{max_samples_of_batch, max_samples_of_chip};
 
-use crate::late::LateChip;
+use crate::late::DeferredChip;
 use chip_form::Chip;
 use ports_timers::Io;
 
 /// Counts some samples more.
-pub(crate) fn pend_all<C: Chip>(late: &mut LateChip<C>, fallen: u8)
-    requires few { late.old.pending + fallen ≤ most_samples_of_batch }
-    requires number { late.old.due + fallen ≤ most_samples_of_chip }
+pub(crate) fn queue_all<C: Chip>(late: &mut DeferredChip<C>, fallen: u8)
+    requires few { late.old.pending + fallen ≤ max_samples_of_batch }
+    requires number { late.old.due + fallen ≤ max_samples_of_chip }
     requires frames { late.old.frames_used + fallen ≤ frame_room }
     requires records { late.old.records_used + 8 * fallen ≤ record_room }
     ensures { late.new ≡ late_with_samples C.meaning late.old fallen }
 {
     'samples: for _ in 0..fallen {
-        late.pend();
+        late.queue();
     }
 }
 

@@ -1,4 +1,4 @@
--- A chip counts on over nothing, and over one stretch after another.
+-- A chip counts on over nothing, and over one span after another.
 use Rattle.std.proofs.Common.{◌≡◌, ◌^◌, ◌<◌, ℕ, arith}
 use Rattle.lock_step.specs.Emits.{CountsOn}
 

@@ -1,9 +1,9 @@
--- A bus that made no round at once.
+-- A bus that made no iteration at once.
 use Rattle.std.proofs.Common.{◌<◌, ℕ, refl, ap}
 use Rattle.spc700_exec.specs.declared.cpu.Cpu.{Cpu}
 use Rattle.spc700_exec.specs.Bus.{BusMeaning}
 use Rattle.lock_step.specs.Emits.{Emits}
-use Rattle.lock_step.specs.WaitOfRounds.{IsWaitOf}
+use Rattle.lock_step.specs.WaitOfIterations.{IsWaitOf}
 use Rattle.lock_step.proofs.ChipCounts.{counts_on_none}
 use Rattle.lock_step.proofs.StepsTaken.{after_no_steps}
 

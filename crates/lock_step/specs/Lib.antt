@@ -11,7 +11,7 @@ pub mod LockStepEmits
 pub mod SampleNumbers
 -- that the machine in lock step keeps the laws of a bus, and of one that emits; no promise speaks of these words
 pub mod LockStepLaws
--- And what a call leaves that makes whole rounds at once, which no promise speaks of:
-pub mod WaitOfRounds
+-- And what a call leaves that makes whole iterations at once, which no promise speaks of:
+pub mod WaitOfIterations
 -- and what one leaves that took some steps
 pub mod StepsOfRun

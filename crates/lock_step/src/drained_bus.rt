@@ -2,10 +2,10 @@
 ghost use Rattle.std.specs.Prelude.{◌≡◌, ◌<◌, ◌≤◌, ◌++◌, [], nat_le};
 ghost use Rattle.spc700_exec.specs.Emitting.{IsEmitting};
 ghost use Rattle.lock_step.specs.Emits.{Emits, IsFrameEach, IsCountedOn, IsCounting, IsBeside};
-ghost use Rattle.num_fix.specs.Limits.{most_frames};
-ghost use Rattle.lock_step.specs.WaitOfRounds.{IsWaitOf};
+ghost use Rattle.num_fix.specs.Limits.{max_frames};
+ghost use Rattle.lock_step.specs.WaitOfIterations.{IsWaitOf};
 ghost use Rattle.lock_step.specs.StepsOfRun.{AreStepsOf};
-ghost use Rattle.spc700_exec.specs.Bus.{most_calls_before_step};
+ghost use Rattle.spc700_exec.specs.Bus.{max_calls_before_step};
 
 use spc700_exec::{Bus, Cpu};
 use trace_form::{Frames, Records};
@@ -22,24 +22,24 @@ pub trait DrainedBus: Bus {
 
     /// Whether there is room for one more step before the next drain, for who makes the steps one by one.
     fn has_room_for_step(&self) -> bool
-        ensures { result ≡ nat_le (Self.means.calls self.now) most_calls_before_step };
+        ensures { result ≡ nat_le (Self.means.calls self.now) max_calls_before_step };
 
     /// Takes steps of the processor, one at least, of which none begins at the end of a run to so many samples. The bus may begin its
     /// calls anew, where nothing is to be drained, so many times; the answer is a hint, which no clause ties down: how many of these times
     /// are left.
-    fn take_steps(&mut self, cpu: &mut Cpu, samples: u32, fillings: u8) -> u8
-        requires calls { Self.means.calls self.old ≤ most_calls_before_step }
+    fn take_steps(&mut self, cpu: &mut Cpu, samples: u32, drain_budget: u8) -> u8
+        requires calls { Self.means.calls self.old ≤ max_calls_before_step }
         requires more { Self.means.due self.old < samples }
-        requires few { samples ≤ most_frames }
+        requires few { samples ≤ max_frames }
         ensures steps { AreStepsOf Self.means emits samples cpu.old self.old cpu.new self.new }
         ensures some { Self.means.clock self.old < Self.means.clock self.new };
 
-    /// Makes at once whole rounds of the loop at which the processor stands, as far as they do nothing but wait and none comes
+    /// Makes at once whole iterations of the loop at which the processor stands, as far as they do nothing but wait and none comes
     /// to the end of a run to so many samples. How many it makes is free, down to none: no clause says it, and step by step
     /// they leave the same.
     fn wait(&mut self, cpu: &Cpu, samples: u32)
         requires more { Self.means.due self.old < samples }
-        requires few { samples ≤ most_frames }
+        requires few { samples ≤ max_frames }
         ensures { IsWaitOf Self.means emits samples cpu.now self.old self.new };
 
     /// Makes all samples that are pending.

@@ -84,14 +84,14 @@ leaves slots pages sample live room made = by (has_room_for_one slots pages room
       others = made.within;
       taken = λ there. (refl, ap (λ (l : List Checkpoint). with_checkpoint l sample pages) made.left);
       all = λ none. absurd (true≢false (sym (has true is) ∙ none));
-      told = λ none. absurd (true≢false (sym (has true is) ∙ none));
+      known = λ none. absurd (true≢false (sym (has true is) ∙ none));
     }
     by false is = record {
       fewest = made.fewest;
       others = made.within;
       taken = λ there. absurd (true≢false (sym there ∙ has false is));
       all = λ none. made.all is;
-      told = λ none. (ap (λ (l : List Checkpoint). NoPages room.gave (slots_needed l pages) (slots_free slots l)) made.left, made.left);
+      known = λ none. (ap (λ (l : List Checkpoint). NoPages room.gave (slots_needed l pages) (slots_free slots l)) made.left, made.left);
     }
 
 pub as_few_as_leave_room : AsFewAsLeaveRoom

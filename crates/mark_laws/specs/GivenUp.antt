@@ -29,19 +29,19 @@ gave_up (NoPages gave need free) = gave
 abbrev pub Takes : (pages : List (List ℕ)) → (sample : ℕ) → (left : List Checkpoint) → (gave : ℕ) → MarkOutcome → Type 0
 Takes pages sample left gave outcome = (outcome.marked ≡ Taken gave) × (outcome.live ≡ with_checkpoint left sample pages)
 
--- a mark took none: it tells what one more needs beside those that are left, and what is free
+-- a mark took none: it shows what one more needs beside those that are left, and what is free
 abbrev pub TakesNone : (slots : ℕ) → (pages : List (List ℕ)) → (left : List Checkpoint) → (gave : ℕ) → MarkOutcome → Type 0
 TakesNone slots pages left gave outcome =
     (outcome.marked ≡ NoPages gave (slots_needed left pages) (slots_free slots left)) × (outcome.live ≡ left)
 
 -- A mark where none stands gave up so many: no fewer leave room for one more, and the first one is not among them. Where they
--- leave room, one is taken; where they don't, all but the first are gone, and it tells what one more needs and what is free.
+-- leave room, one is taken; where they don't, all but the first are gone, and it shows what one more needs and what is free.
 pub record LeavesRoom (slots : ℕ) (pages : List (List ℕ)) (sample : ℕ) (live : List Checkpoint) (gave : ℕ) (outcome : MarkOutcome) : Type 0 where
   pub fewest : (fewer : ℕ) → fewer < gave → has_room_for_one slots pages (left_after fewer live) ≡ false
   pub others : gave ≤ length live - 1
   pub taken : has_room_for_one slots pages (left_after gave live) ≡ true → Takes pages sample (left_after gave live) gave outcome
   pub all : has_room_for_one slots pages (left_after gave live) ≡ false → gave ≡ length live - 1
-  pub told : has_room_for_one slots pages (left_after gave live) ≡ false → TakesNone slots pages (left_after gave live) gave outcome
+  pub known : has_room_for_one slots pages (left_after gave live) ≡ false → TakesNone slots pages (left_after gave live) gave outcome
 
 abbrev pub AsFewAsLeaveRoom : Type 0
 AsFewAsLeaveRoom = (slots : ℕ) (pages : List (List ℕ)) (sample : ℕ) (live : List Checkpoint) → stands_at live sample ≡ false

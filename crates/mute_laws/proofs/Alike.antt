@@ -45,14 +45,14 @@ poll_with : (s : ChipState) (k : ℕ) (registers : List ℕ) → after_poll (wit
 unfolding after_poll
 poll_with s k registers = by (k % 2 == 0)
   where
-    waiting : ℕ
-    waiting = without_bits s.hidden.waiting s.hidden.taken
+    kon_pending : ℕ
+    kon_pending = without_bits s.hidden.kon_pending s.hidden.kon_latched
 
     whole : ChipState
     whole = with_registers s registers
 
-    by : (b : Bool) → (if b then record whole { hidden = record whole.hidden { waiting = waiting; taken = waiting } } else whole)
-        ≡ with_registers (if b then record s { hidden = record s.hidden { waiting = waiting; taken = waiting } } else s) registers
+    by : (b : Bool) → (if b then record whole { hidden = record whole.hidden { kon_pending = kon_pending; kon_latched = kon_pending } } else whole)
+        ≡ with_registers (if b then record s { hidden = record s.hidden { kon_pending = kon_pending; kon_latched = kon_pending } } else s) registers
     by true = refl
     by false = refl
 

@@ -13,14 +13,14 @@ poll_with : (s : ChipState) (k muted : ℕ) → after_poll (with_muted s muted) 
 unfolding after_poll
 poll_with s k muted = by (k % 2 == 0)
   where
-    waiting : ℕ
-    waiting = without_bits s.hidden.waiting s.hidden.taken
+    kon_pending : ℕ
+    kon_pending = without_bits s.hidden.kon_pending s.hidden.kon_latched
 
     whole : ChipState
     whole = with_muted s muted
 
-    by : (b : Bool) → (if b then record whole { hidden = record whole.hidden { waiting = waiting; taken = waiting } } else whole)
-        ≡ with_muted (if b then record s { hidden = record s.hidden { waiting = waiting; taken = waiting } } else s) muted
+    by : (b : Bool) → (if b then record whole { hidden = record whole.hidden { kon_pending = kon_pending; kon_latched = kon_pending } } else whole)
+        ≡ with_muted (if b then record s { hidden = record s.hidden { kon_pending = kon_pending; kon_latched = kon_pending } } else s) muted
     by true = refl
     by false = refl
 
@@ -45,10 +45,10 @@ writes_leave_muted s muted address byte = by (nat_le 0x80 address)
     registers : List ℕ
     registers = slice_set s.registers address (if address == ENDX then 0 else byte)
 
-    waiting : ℕ
-    waiting = if address == KON then byte else s.hidden.waiting
+    kon_pending : ℕ
+    kon_pending = if address == KON then byte else s.hidden.kon_pending
 
-    by : (b : Bool) → (if b then with_muted s muted else record (with_muted s muted) { registers = registers; hidden = record s.hidden { waiting = waiting } })
-        ≡ with_muted (if b then s else record s { registers = registers; hidden = record s.hidden { waiting = waiting } }) muted
+    by : (b : Bool) → (if b then with_muted s muted else record (with_muted s muted) { registers = registers; hidden = record s.hidden { kon_pending = kon_pending } })
+        ≡ with_muted (if b then s else record s { registers = registers; hidden = record s.hidden { kon_pending = kon_pending } }) muted
     by true = refl
     by false = refl

@@ -16,15 +16,15 @@ unfolding register_read
 reads_stay_alike s t address alike free = alike.others (address % 0x80) free
 
 -- a write of a chip with other registers
-module _ (s : ChipState) (registers : List ℕ) (address value waiting : ℕ) where
-  with_written : (b : Bool) → (if b then with_registers s registers else record (with_registers s registers) { registers = slice_set registers address value; hidden = record s.hidden { waiting = waiting } })
-      ≡ with_registers (if b then s else record s { registers = slice_set s.registers address value; hidden = record s.hidden { waiting = waiting } }) (if b then registers else slice_set registers address value)
+module _ (s : ChipState) (registers : List ℕ) (address value kon_pending : ℕ) where
+  with_written : (b : Bool) → (if b then with_registers s registers else record (with_registers s registers) { registers = slice_set registers address value; hidden = record s.hidden { kon_pending = kon_pending } })
+      ≡ with_registers (if b then s else record s { registers = slice_set s.registers address value; hidden = record s.hidden { kon_pending = kon_pending } }) (if b then registers else slice_set registers address value)
   with_written true = refl
   with_written false = refl
 
   differ_written : (b : Bool) → Differ s.muted s.registers registers
-      → Differ (if b then s else record s { registers = slice_set s.registers address value; hidden = record s.hidden { waiting = waiting } }).muted
-      (if b then s else record s { registers = slice_set s.registers address value; hidden = record s.hidden { waiting = waiting } }).registers
+      → Differ (if b then s else record s { registers = slice_set s.registers address value; hidden = record s.hidden { kon_pending = kon_pending } }).muted
+      (if b then s else record s { registers = slice_set s.registers address value; hidden = record s.hidden { kon_pending = kon_pending } }).registers
       (if b then registers else slice_set registers address value)
   differ_written true differ = differ
   differ_written false differ = stored_in_both s.muted s.registers registers address value differ
@@ -33,11 +33,11 @@ pub writes_stay_alike : (s t : ChipState) (address byte : ℕ) → AreAlike s t 
 unfolding register_write
 writes_stay_alike s t address byte alike =
     let value : ℕ = if address == ENDX then 0 else byte in
-    let waiting : ℕ = if address == KON then byte else s.hidden.waiting in
+    let kon_pending : ℕ = if address == KON then byte else s.hidden.kon_pending in
     let high : Bool = nat_le 0x80 address in
     alike_from (register_write s address byte) (register_write t address byte) (if high then t.registers else slice_set t.registers address value)
-    (ap (λ (u : ChipState). register_write u address byte) alike.rest ∙ with_written s t.registers address value waiting high)
-    (differ_written s t.registers address value waiting high (differ_of s t alike))
+    (ap (λ (u : ChipState). register_write u address byte) alike.rest ∙ with_written s t.registers address value kon_pending high)
+    (differ_written s t.registers address value kon_pending high (differ_of s t alike))
 
 -- the place of a muted voice's volume in its row
 low_place : (a b : Bool) (place : ℕ) → (place == VOLL) ≡ a → (place == VOLR) ≡ b → (a || b) ≡ true → place < 2

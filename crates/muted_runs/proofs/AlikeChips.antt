@@ -60,7 +60,7 @@ muted-write s address byte = by (nat_le 0x80 address)
   where
     by : (b : Bool) → (if b then s else record s {
       registers = slice_set s.registers address (if address == ENDX then 0 else byte);
-      hidden = record s.hidden { waiting = if address == KON then byte else s.hidden.waiting };
+      hidden = record s.hidden { kon_pending = if address == KON then byte else s.hidden.kon_pending };
     }).muted ≡ s.muted
     by true = refl
     by false = refl

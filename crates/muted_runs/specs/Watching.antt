@@ -11,7 +11,7 @@ pub record Watched (S : Type 0) : Type 0 where
   -- whether a hidden register was read so far
   pub noted : Bool
 
--- whether a read of an address is one of a hidden register: of F3h, where the DSP address tells it
+-- whether a read of an address is one of a hidden register: of F3h, where the DSP address shows it
 abbrev pub reads_hidden : {S : Type 0} → (hidden : (address : ℕ) → Bool) → Machine S → (at : ℕ) → Bool
 reads_hidden hidden m at = at == 0xF3 && hidden (m.io.dsp_address % 0x80)
 

@@ -1,7 +1,7 @@
 -- The free slots, and how they are linked: each that was made names the next one in its own bytes.
 use Rattle.std.specs.Prelude.{◌≡◌, ◌≢◌, ℕ, zero, suc, ◌+◌, ◌*◌, ◌<◌, ◌≤◌, if◌then◌else◌, List, [], ◌∷◌, ◌++◌, length, map, replicate, slice_index}
 use Rattle.page_pool.specs.declared.slot.Slot.{Slot}
-use Rattle.page_pool.specs.Pool.{most_pages, free_slot, slot_at, is_free, free_slots}
+use Rattle.page_pool.specs.Pool.{max_pages, free_slot, slot_at, is_free, free_slots}
 
 -- what contracts see of a slot
 abbrev pub seen_slot : Slot → Slot
@@ -42,6 +42,6 @@ pub record IsLinked (slots : List Slot) (first free : ℕ) : Type 0 where
 
 -- what a pool keeps of its slots: the list of those that were made has room for the others
 pub record IsPooled (made : List Slot) (unmade first free room : ℕ) : Type 0 where
-  pub few : length made + unmade ≤ most_pages
+  pub few : length made + unmade ≤ max_pages
   pub fits : length made + unmade ≤ room
   pub linked : IsLinked made first free

@@ -3,7 +3,7 @@
 use Rattle.std.specs.Prelude.{◌≡◌, ℕ, ◌+◌, ◌-◌, ◌<◌, Bool, ◌==◌, if◌then◌else◌, List, [], slice_index_or, slice_set}
 use Rattle.std.specs.List.{count_by}
 use Rattle.page_pool.specs.declared.slot.Slot.{Slot}
-use Rattle.page_pool.specs.declared.pool.TheConstants.{MOST_PAGES}
+use Rattle.page_pool.specs.declared.pool.TheConstants.{MAX_PAGES}
 use Rattle.page_pool.specs.declared.slot.TheConstants.{PAGE_SIZE}
 
 -- the bytes of a page
@@ -11,12 +11,12 @@ abbrev pub page_size : ℕ
 page_size = PAGE_SIZE
 
 -- the most pages of a pool: their numbers have 16 bits
-abbrev pub most_pages : ℕ
-most_pages = MOST_PAGES
+abbrev pub max_pages : ℕ
+max_pages = MAX_PAGES
 
 -- the most owners of a page that may get one more
-abbrev pub most_owners : ℕ
-most_owners = 1000000
+abbrev pub max_owners : ℕ
+max_owners = 1000000
 
 -- a slot without an owner
 abbrev pub free_slot : Slot

@@ -1,6 +1,6 @@
 // The pool, and the pages that it hands out.
 ghost use Rattle.std.specs.Prelude.{◌≡◌, ◌<◌, ◌≤◌, ◌↔◌, length, replicate, IfOk, IfSome, IfNone, IsNone};
-ghost use Rattle.page_pool.specs.Pool.{page_size, most_pages, most_owners, free_slot, slot_at, free_slots, after_take, after_share, after_give};
+ghost use Rattle.page_pool.specs.Pool.{page_size, max_pages, max_owners, free_slot, slot_at, free_slots, after_take, after_share, after_give};
 
 use crate::OutOfMemory;
 use crate::slot::Slot;
@@ -9,7 +9,7 @@ use std::alloc::Global;
 use std::marker::Model;
 
 /// The most pages of a pool: their numbers have 16 bits.
-pub const MOST_PAGES: u32 = 65_536;
+pub const MAX_PAGES: u32 = 65_536;
 
 /// A page that a pool handed out, seen as the number of its slot, 0 to 65,535.
 #[derive(Clone, Copy, Debug, PartialEq, Eq)]
@@ -54,7 +54,7 @@ impl PagePool {
     /// A pool of 1 to 65,536 slots, all free.
     pub fn new(alloc: Global, pages: u32) -> Result<PagePool, OutOfMemory>
         requires some { 0 < pages }
-        requires few { pages ≤ most_pages }
+        requires few { pages ≤ max_pages }
         ensures { IfOk result (λ pool. pool ≡ replicate pages free_slot) }
     {
         let slots = FixedVec::with_capacity(alloc, pages as usize)?;
@@ -96,7 +96,7 @@ impl PagePool {
     /// Gives a page one owner more.
     pub fn share(&mut self, page: Page)
         requires owned { 0 < (slot_at self.old page).owners }
-        requires few { (slot_at self.old page).owners ≤ most_owners }
+        requires few { (slot_at self.old page).owners ≤ max_owners }
         ensures { self.new ≡ after_share self.old page }
     {
         let slot = self.slots.element_mut(usize::from(page.slot));

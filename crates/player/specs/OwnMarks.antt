@@ -3,11 +3,11 @@ use Rattle.std.specs.Prelude.{ℕ, zero, suc, ◌+◌, ◌*◌, ◌%◌, Bool, n
 use Rattle.num_fix.specs.declared.TheConstants.{SAMPLE_RATE}
 use Rattle.cut_form.specs.Checkpoints.{Checkpoint}
 use Rattle.cut_form.specs.Marks.{mark_at}
-use Rattle.player.specs.declared.own_marks.TheConstants.{MOST_MARK_SECONDS}
+use Rattle.player.specs.declared.own_marks.TheConstants.{MAX_MARK_SECONDS}
 
 -- the most seconds between two of them: an hour; and the frames of so many seconds
-abbrev pub most_mark_seconds : ℕ
-most_mark_seconds = MOST_MARK_SECONDS
+abbrev pub max_mark_seconds : ℕ
+max_mark_seconds = MAX_MARK_SECONDS
 
 abbrev pub spacing_of : (seconds : ℕ) → ℕ
 spacing_of seconds = SAMPLE_RATE * seconds

@@ -75,7 +75,7 @@ sought_some player at most = min at (runs_from (book_of player.server) at + most
 abbrev pub SeekIsNear : {S V : Type 0} → PlayerState S V → (at : ℕ) → Type 0
 SeekIsNear player at = (mark : ℕ) → stands_at (marks_of player) mark ≡ true → mark ≤ at → frames_sought player at ≤ at - mark
 
--- the frames of a render of the tune, which is as long as the end tells and fades as it tells, and so many of them from the position on
+-- the frames of a render of the tune, which is as long as the end says and fades as it says, and so many of them from the position on
 abbrev pub faded_run : {S V : Type 0} → ChipMeaning S → ChipSaving S V → PlayerState S V → List Frame
 faded_run chip saving player = faded_frames (frames_of chip saving player player.end.frames) player.end.fade
 
@@ -86,7 +86,7 @@ faded_frames_played chip saving player count = take count (drop (position_of pla
 abbrev pub opening_of : {S V : Type 0} → ChipMeaning S → ChipSaving S V → PlayerState S V → Whole (Machine S)
 opening_of chip saving player = opening chip saving player.server
 
--- a player over a server of a file's cuts, which takes a mark by itself each so many frames; its render ends as the tags tell
+-- a player over a server of a file's cuts, which takes a mark by itself each so many frames; its render ends as the tags give
 pub record IsOver {S V : Type 0} (server : ChipServer S V) (file : List ℕ) (spacing : ℕ) (player : PlayerState S V) : Type 0 where
   pub server_is : player.server ≡ server
   pub file_is : player.file ≡ file

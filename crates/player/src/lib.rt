@@ -10,6 +10,6 @@ mod threads;
 
 pub use laws::what_was_heard_is_near;
 pub use output::{StereoFrame, put_text};
-pub use own_marks::MOST_MARK_SECONDS;
+pub use own_marks::MAX_MARK_SECONDS;
 pub use player::Player;
 pub use threads::a_player_may_go_to_another_thread;

@@ -1,6 +1,6 @@
 // A player.
 ghost use Rattle.std.specs.Prelude.{◌≡◌, ◌+◌, ◌-◌, ◌^◌, ◌≤◌, ◌<◌, ◌++◌, ◌==◌, min, length, take, drop, map, IfOk};
-ghost use Rattle.num_fix.specs.Limits.{most_frames};
+ghost use Rattle.num_fix.specs.Limits.{max_frames};
 ghost use Rattle.chip_form.specs.Samples.{count_after};
 ghost use Rattle.cut_form.specs.Checkpoints.{slots_free};
 ghost use Rattle.cut_form.specs.CutBook.{after_play, counted_book};
@@ -8,16 +8,16 @@ ghost use Rattle.cut_form.specs.Slices.{slice_of};
 ghost use Rattle.cut_form.specs.GrowingFrames.{AreOfRun};
 ghost use Rattle.cut_server.specs.Server.{frames_to, KeepsTune};
 ghost use Rattle.cut_server.specs.ServerState.{book_of};
-ghost use Rattle.spc_form.specs.Tags.{field_size, length_of, text_of, has_tags, most_told_frames};
+ghost use Rattle.spc_form.specs.Tags.{field_size, length_of, text_of, has_tags, max_length_of_tags};
 ghost use Rattle.player.specs.Output.{stereo, with_text};
-ghost use Rattle.player.specs.OwnMarks.{most_mark_seconds, spacing_of, with_own_mark};
+ghost use Rattle.player.specs.OwnMarks.{max_mark_seconds, spacing_of, with_own_mark};
 ghost use Rattle.player.specs.Player.{frames_of, memory_of, position_of, chip_here, marks_of, room_of, marking, marks_played, made_of};
 ghost use Rattle.player.specs.Player.{frames_sought, sought_some, SeekIsNear, faded_frames_played, opening_of, IsOver, IsRestarted, KeepsPlayer};
 
 use crate::output::{StereoFrame, fade_frames, put_frames, put_text};
-use crate::own_marks::{MOST_AT_ONCE, frames_at_once, is_own_mark};
+use crate::own_marks::{MAX_AT_ONCE, frames_at_once, is_own_mark};
 use chip_form::Chip;
-use cut_form::{MOST_FRAMES, Marked};
+use cut_form::{MAX_FRAMES, Marked};
 use cut_server::CutServer;
 use num_fix::{Frame, SAMPLE_RATE};
 use spc_form::{Length, SpcFile, Tag};
@@ -31,20 +31,20 @@ pub struct Player<C: Chip> {
     file: SpcFile,
     spacing: u32,
     end: Length,
-    frames: [Frame; MOST_AT_ONCE],
+    frames: [Frame; MAX_AT_ONCE],
 }
 
 impl<C: Chip> Model for Player<C> {
     ghost use Rattle.std.specs.Prelude.{◌≡◌, ◌≤◌, length};
-    ghost use Rattle.num_fix.specs.Limits.{most_frames};
+    ghost use Rattle.num_fix.specs.Limits.{max_frames};
     ghost use Rattle.player.specs.Player.{PlayerState};
-    ghost use Rattle.player.specs.declared.own_marks.TheConstants.{MOST_AT_ONCE};
+    ghost use Rattle.player.specs.declared.own_marks.TheConstants.{MAX_AT_ONCE};
 
     ghost Value = { PlayerState C.State C.Saved };
 
     ghost view = { λ p. record { server = p.server; file = p.file; spacing = p.spacing; end = p.end } };
 
-    ghost invariant = { λ p. (length p.frames ≡ MOST_AT_ONCE) × (p.end.frames ≤ most_frames) × (p.end.fade ≤ p.end.frames) };
+    ghost invariant = { λ p. (length p.frames ≡ MAX_AT_ONCE) × (p.end.frames ≤ max_frames) × (p.end.fade ≤ p.end.frames) };
 }
 
 /// Plays so many frames through a room, and puts them into others from a place on.
@@ -57,7 +57,7 @@ fn play_through<C: Chip>(
 )
     requires room { count ≤ length room.old }
     requires within { from + count ≤ length out.old }
-    requires hour { (book_of server.old).position + count ≤ most_frames }
+    requires hour { (book_of server.old).position + count ≤ max_frames }
     ensures frames { let played = slice_of (frames_to C.meaning C.saving server.old) (book_of server.old).position count in
         out.new ≡ take from out.old ++ map stereo played ++ drop (from + count) out.old }
     ensures book { book_of server.new ≡ counted_book (after_play (book_of server.old) count) }
@@ -71,7 +71,7 @@ impl<C: Chip> Player<C> {
     /// A player over a server of a file's cuts, where that stands, with its marks and over its chip. It takes a mark by itself each so many
     /// seconds, at most 3,600; none at 0.
     pub fn over(server: CutServer<C>, file: SpcFile, mark_seconds: u32) -> Player<C>
-        requires { mark_seconds ≤ most_mark_seconds }
+        requires { mark_seconds ≤ max_mark_seconds }
         ensures over { IsOver server file (spacing_of mark_seconds) result }
     {
         let end = file.length();
@@ -80,24 +80,24 @@ impl<C: Chip> Player<C> {
             file,
             spacing: SAMPLE_RATE * mark_seconds,
             end,
-            frames: [Frame::default(); MOST_AT_ONCE],
+            frames: [Frame::default(); MAX_AT_ONCE],
         }
     }
 
     /// The length by the tags of the file, and how many of its last frames fade out, in frames, of which 32,000 are a second; three
-    /// minutes without a fade where the tags tell none. Frames can be played behind it.
+    /// minutes without a fade where the tags give none. Frames can be played behind it.
     pub fn length(&self) -> Length
         ensures length { result ≡ length_of self.now.file }
-        ensures most { result.frames ≤ most_told_frames }
+        ensures most { result.frames ≤ max_length_of_tags }
         ensures fade_within { result.fade ≤ result.frames }
     {
         self.file.length()
     }
 
-    /// The length to which `play_faded` plays, and how many of its last frames fade out: those of the tags, until `set_end` tells others.
+    /// The length to which `play_faded` plays, and how many of its last frames fade out: those of the tags, until `set_end` sets others.
     pub fn end(&self) -> Length
         ensures end { result ≡ self.now.end }
-        ensures hour { result.frames ≤ most_frames }
+        ensures hour { result.frames ≤ max_frames }
         ensures fade_within { result.fade ≤ result.frames }
     {
         self.end
@@ -105,7 +105,7 @@ impl<C: Chip> Player<C> {
 
     /// Has `play_faded` play to another length, at most an hour, and fade out so many of its last frames.
     pub fn set_end(&mut self, end: Length)
-        requires hour { end.frames ≤ most_frames }
+        requires hour { end.frames ≤ max_frames }
         requires fade_within { end.fade ≤ end.frames }
         ensures { self.new ≡ record self.old { end = end } }
     {
@@ -119,7 +119,7 @@ impl<C: Chip> Player<C> {
         self.file.is_tagged()
     }
 
-    /// Writes the text of a tag, whatever its bytes are, as much as there is room for, and a zero byte; tells the whole text's length.
+    /// Writes the text of a tag, whatever its bytes are, as much as there is room for, and a zero byte; returns the whole text's length.
     pub fn tag(&self, tag: Tag, out: &mut [u8]) -> usize
         ensures text { out.new ≡ with_text (text_of self.now.file tag) out.old }
         ensures length { result ≡ length (text_of self.now.file tag) }
@@ -133,7 +133,7 @@ impl<C: Chip> Player<C> {
     /// The position: how many frames stand before it.
     pub fn position(&self) -> u32
         ensures position { result ≡ position_of self.now }
-        ensures within { result ≤ most_frames }
+        ensures within { result ≤ max_frames }
         ensures run { AreOfRun (frames_of C.meaning C.saving self.now) }
         ensures counted { made_of self.now < 2 ^ 64 }
     {
@@ -155,7 +155,7 @@ impl<C: Chip> Player<C> {
         self.server.work()
     }
 
-    /// The chip that plays. It made the frames that `made` tells, its next sample is that at the position, and its state is that of the
+    /// The chip that plays. It made the frames that `made` returns, its next sample is that at the position, and its state is that of the
     /// run's there.
     pub fn chip(&self) -> &C
         ensures made { C.total result.now ≡ made_of self.now }
@@ -168,7 +168,7 @@ impl<C: Chip> Player<C> {
     /// Goes to a frame, at most an hour: from the position, or from the last mark up to it. It makes at most the frames from any mark up
     /// to it.
     pub fn seek(&mut self, at: u32)
-        requires { at ≤ most_frames }
+        requires { at ≤ max_frames }
         ensures position { position_of self.new ≡ at }
         ensures marks { marks_of self.new ≡ marks_of self.old }
         ensures made { made_of self.new ≡ count_after (made_of self.old) (frames_sought self.old at) }
@@ -178,10 +178,10 @@ impl<C: Chip> Player<C> {
         self.server.seek(at);
     }
 
-    /// Goes towards a frame, at most an hour, and makes at most so many frames for it; tells whether it is there. So many fewer are left then:
+    /// Goes towards a frame, at most an hour, and makes at most so many frames for it; returns whether it is there. So many fewer are left then:
     /// called again until it is there, it makes as many as one seek.
     pub fn seek_some(&mut self, at: u32, most: u32) -> bool
-        requires { at ≤ most_frames }
+        requires { at ≤ max_frames }
         ensures position { position_of self.new ≡ sought_some self.old at most }
         ensures there { result ≡ (position_of self.new == at) }
         ensures marks { marks_of self.new ≡ marks_of self.old }
@@ -237,12 +237,12 @@ impl<C: Chip> Player<C> {
         }
     }
 
-    /// Plays the next frames, at most 1,024 and not past the next mark of its own, into others from a place on, but not past an end; tells
+    /// Plays the next frames, at most 1,024 and not past the next mark of its own, into others from a place on, but not past an end; shows
     /// how many.
     fn play_some(&mut self, out: &mut [StereoFrame], from: usize, end: usize) -> usize
         requires some { from < end }
         requires within { end ≤ length out.old }
-        requires hour { position_of self.old + (end - from) ≤ most_frames }
+        requires hour { position_of self.old + (end - from) ≤ max_frames }
         ensures some { 0 < result }
         ensures within { result ≤ end - from }
         ensures frames { let played = slice_of (frames_of C.meaning C.saving self.old) (position_of self.old) result in
@@ -258,17 +258,17 @@ impl<C: Chip> Player<C> {
         most
     }
 
-    /// Plays the next frames, as many as there is room for, but not past an hour; tells how many. Wherever the position comes to a multiple
+    /// Plays the next frames, as many as there is room for, but not past an hour; returns how many. Wherever the position comes to a multiple
     /// of the seconds that it was opened with, it takes a mark.
     pub fn play(&mut self, out: &mut [StereoFrame]) -> usize
-        ensures count { result ≡ min (length out.old) (most_frames - position_of self.old) }
+        ensures count { result ≡ min (length out.old) (max_frames - position_of self.old) }
         ensures frames { out.new ≡ map stereo (slice_of (frames_of C.meaning C.saving self.old) (position_of self.old) result) ++ drop result out.old }
         ensures position { position_of self.new ≡ position_of self.old + result }
         ensures marks { marks_of self.new ≡ marks_played C.meaning C.saving self.old result }
         ensures made { made_of self.new ≡ count_after (made_of self.old) result }
         ensures tune { KeepsPlayer C.meaning C.saving self.old self.new }
     {
-        let count = out.len().min((MOST_FRAMES - self.position()) as usize);
+        let count = out.len().min((MAX_FRAMES - self.position()) as usize);
         let mut done = 0;
         'pieces: while done < count {
             done += self.play_some(out, done, count);
@@ -276,7 +276,7 @@ impl<C: Chip> Player<C> {
         count
     }
 
-    /// Plays the next frames of a render, which is as long as the end tells and fades as it tells; tells how many.
+    /// Plays the next frames of a render, which is as long as the end says and fades as it says; returns how many.
     pub fn play_faded(&mut self, out: &mut [StereoFrame]) -> usize
         ensures count { result ≡ min (length out.old) (self.old.end.frames - position_of self.old) }
         ensures frames { out.new ≡ map stereo (faded_frames_played C.meaning C.saving self.old result) ++ drop result out.old }

@@ -1,4 +1,4 @@
--- What the bytes of a file tell, as C has it (own).
+-- What the bytes of a file say, as C has it (own).
 use Rattle.std.specs.Prelude.{ℕ, Bool, if◌then◌else◌}
 use Rattle.spc_form.specs.declared.inspection.SpcInfo.{SpcInfo}
 use Rattle.player_c.specs.declared.info.SpcwaveInfo.{SpcwaveInfo}
@@ -8,12 +8,12 @@ use Rattle.player_c.specs.declared.info.TheConstants.{INFO_SIZE}
 abbrev pub yes_or_no : Bool → ℕ
 yes_or_no answer = if answer then 1 else 0
 
-abbrev pub told_of : SpcInfo → SpcwaveInfo
-told_of info = record {
+abbrev pub known_of : SpcInfo → SpcwaveInfo
+known_of info = record {
   size = INFO_SIZE;
   frames = info.length.frames;
   fade = info.length.fade;
   tagged = yes_or_no info.is_tagged;
-  timed = yes_or_no info.is_length_told;
+  timed = yes_or_no info.is_length_known;
   tags = info.texts;
 }

@@ -2,7 +2,7 @@
 pub mod Closing
 -- the handle, and what calls make of the player that it has
 pub mod Handle
--- what the bytes of a file tell
+-- what the bytes of a file say
 pub mod Info
 -- what a handle ends as, once its player was lent
 pub mod Lending

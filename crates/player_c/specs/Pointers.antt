@@ -8,7 +8,7 @@ use Rattle.player_c.specs.declared.handle.SpcwavePlayer.{SpcwavePlayer}
 use Rattle.player_c.specs.contracts.handle.SpcwavePlayer.{the_row}
 use Rattle.player_c.specs.Owned.{chunk}
 
--- how a proof tells handles apart
+-- how a proof distinguishes handles
 abbrev pub handle_code : Coded SpcwavePlayer
 handle_code = the_row.coded
 

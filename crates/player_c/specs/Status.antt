@@ -1,6 +1,6 @@
 -- The numbers that calls answer: those of the program's statuses, and two more.
 use Rattle.std.specs.Prelude.{ℕ, ◌==◌, ◌&&◌, Bool, if◌then◌else◌, nat_le, nat_lt, List, Result, Ok, Err}
-use Rattle.num_fix.specs.Limits.{most_frames}
+use Rattle.num_fix.specs.Limits.{max_frames}
 use Rattle.spc_form.specs.declared.reading.SpcRefusal.{SpcRefusal}
 use Rattle.spc_form.specs.Accepted.{spc_file}
 use Rattle.spc_player.specs.declared.refusal.PlayerRefusal.{PlayerRefusal}
@@ -55,7 +55,7 @@ range_status within = if within then ok else out_of_range
 -- the status of a seek towards a frame that makes at most so many
 abbrev pub seek_status : SpcPlayer → (frame most : ℕ) → ℕ
 seek_status player frame most =
-    if nat_le frame most_frames && nat_lt 0 most then (if sought_some player frame most == frame then ok else not_yet) else out_of_range
+    if nat_le frame max_frames && nat_lt 0 most then (if sought_some player frame most == frame then ok else not_yet) else out_of_range
 
 -- the version of the library, 1.2.0: a byte for each of the last two numbers
 abbrev pub version : ℕ

@@ -1,6 +1,6 @@
 // What C calls. No call but `spcwave_open` takes memory.
 ghost use Rattle.std.specs.Prelude.{◌≡◌, ◌≢◌, ◌<◌, ◌+◌, ◌-◌, ◌++◌, ◌⊎◌, ◌&&◌, true, nat_le, min, map, None, Err, IfErr, IfOk, IfSome, length, drop};
-ghost use Rattle.num_fix.specs.Limits.{most_frames};
+ghost use Rattle.num_fix.specs.Limits.{max_frames};
 ghost use Rattle.cut_form.specs.Slices.{slice_of};
 ghost use Rattle.player.specs.Output.{stereo};
 ghost use Rattle.player.specs.Player.{position_of, made_of, SeekIsNear};
@@ -17,7 +17,7 @@ use crate::handle::SpcwavePlayer;
 use crate::options::SpcwaveOptions;
 use crate::pointer::SpcwavePointer;
 use crate::status::{NOT_YET, OK, OUT_OF_MEMORY, OUT_OF_RANGE, status_of};
-use cut_form::MOST_FRAMES;
+use cut_form::MAX_FRAMES;
 use dsp_core::Dsp;
 use player::{Player, StereoFrame};
 use spc_form::Length;
@@ -129,18 +129,18 @@ pub extern "C" fn spcwave_close(alloc: Global, player: &mut SpcwavePointer)
     *player = SpcwavePointer::nothing();
 }
 
-/// Plays the next frames, as many as there is room for, but not past an hour; tells how many.
+/// Plays the next frames, as many as there is room for, but not past an hour; returns how many.
 #[unsafe(no_mangle)]
 pub extern "C" fn spcwave_play(player: &mut SpcwavePlayer, frames: &mut [StereoFrame]) -> usize
     requires { IsOpen player.old }
-    ensures count { IfSome (playing player.old) (λ p. result ≡ min (length frames.old) (most_frames - position_of p)) }
+    ensures count { IfSome (playing player.old) (λ p. result ≡ min (length frames.old) (max_frames - position_of p)) }
     ensures frames { IfSome (playing player.old) (λ p. frames.new ≡ map stereo (slice_of (frames_of p) (position_of p) result) ++ drop result frames.old) }
     ensures moved { PlayedOn result (playing player.old) (playing player.new) }
 {
     player.owned.player().play(frames)
 }
 
-/// Plays the next frames of a render, which is as long as the end tells and fades as it tells; tells how many.
+/// Plays the next frames of a render, which is as long as the end says and fades as it says; returns how many.
 #[unsafe(no_mangle)]
 pub extern "C" fn spcwave_play_faded(
     player: &mut SpcwavePlayer,
@@ -158,11 +158,11 @@ pub extern "C" fn spcwave_play_faded(
 #[unsafe(no_mangle)]
 pub extern "C" fn spcwave_set_end(player: &mut SpcwavePlayer, frames: u32, fade: u32) -> u32
     requires { IsOpen player.old }
-    ensures status { result ≡ range_status (nat_le frames most_frames && nat_le fade frames) }
+    ensures status { result ≡ range_status (nat_le frames max_frames && nat_le fade frames) }
     ensures ends { result ≡ ok → EndsAt (record { frames = frames; fade = fade }) (playing player.old) (playing player.new) }
     ensures otherwise { result ≢ ok → playing player.new ≡ playing player.old }
 {
-    if frames > MOST_FRAMES || fade > frames {
+    if frames > MAX_FRAMES || fade > frames {
         return OUT_OF_RANGE;
     }
     player.owned.player().set_end(Length { frames, fade });
@@ -173,19 +173,19 @@ pub extern "C" fn spcwave_set_end(player: &mut SpcwavePlayer, frames: u32, fade:
 #[unsafe(no_mangle)]
 pub extern "C" fn spcwave_seek(player: &mut SpcwavePlayer, frame: u32) -> u32
     requires { IsOpen player.old }
-    ensures status { result ≡ range_status (nat_le frame most_frames) }
+    ensures status { result ≡ range_status (nat_le frame max_frames) }
     ensures moved { result ≡ ok → Sought frame (playing player.old) (playing player.new) }
     ensures near { result ≡ ok → IfSome (playing player.old) (λ p. SeekIsNear p frame) }
     ensures otherwise { result ≢ ok → playing player.new ≡ playing player.old }
 {
-    if frame > MOST_FRAMES {
+    if frame > MAX_FRAMES {
         return OUT_OF_RANGE;
     }
     player.owned.player().seek(frame);
     OK
 }
 
-/// Goes towards a frame, and makes at most so many frames for it, 1 or more; tells whether it is there. Called again until it is, it makes as
+/// Goes towards a frame, and makes at most so many frames for it, 1 or more; returns whether it is there. Called again until it is, it makes as
 /// many as one seek.
 #[unsafe(no_mangle)]
 pub extern "C" fn spcwave_seek_some(player: &mut SpcwavePlayer, frame: u32, most: u32) -> u32
@@ -195,7 +195,7 @@ pub extern "C" fn spcwave_seek_some(player: &mut SpcwavePlayer, frame: u32, most
     ensures left { result ≢ out_of_range → LeftToSeek frame most (playing player.old) (playing player.new) }
     ensures otherwise { result ≡ out_of_range → playing player.new ≡ playing player.old }
 {
-    if frame > MOST_FRAMES || most == 0 {
+    if frame > MAX_FRAMES || most == 0 {
         return OUT_OF_RANGE;
     }
     if player.owned.player().seek_some(frame, most) {

@@ -11,7 +11,7 @@ pub(crate) const OPTIONS_SIZE: u32 = 16;
 #[repr(C)]
 #[derive(Clone, Copy, Debug, PartialEq, Eq)]
 pub struct SpcwaveOptions {
-    /// The size of this struct in bytes, 16, by which a later library tells which fields it has.
+    /// The size of this struct in bytes, 16, by which a later library knows which fields it has.
     pub size: u32,
     /// The pages, as `PlayerOptions` has them.
     pub pages: u32,

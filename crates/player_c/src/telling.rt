@@ -1,4 +1,4 @@
-// What C is told of a player.
+// What C can ask of a player.
 ghost use Rattle.std.specs.Prelude.{◌≡◌, ◌≢◌, nat_lt, IfSome, length};
 ghost use Rattle.cut_form.specs.Checkpoints.{slots_free};
 ghost use Rattle.spc_form.specs.Tags.{length_of, has_tags};
@@ -66,7 +66,7 @@ pub extern "C" fn spcwave_tagged(player: &mut SpcwavePlayer) -> bool
     player.owned.player().is_tagged()
 }
 
-/// Writes the text of a tag as `player::Player::tag` does, and tells its whole length. It is empty where no tag has the number: 0 title, 1 game,
+/// Writes the text of a tag as `player::Player::tag` does, and returns its whole length. It is empty where no tag has the number: 0 title, 1 game,
 /// 2 artist, 3 dumper, 4 comments, 5 date, 6 seconds, 7 fade.
 #[unsafe(no_mangle)]
 pub extern "C" fn spcwave_tag(player: &mut SpcwavePlayer, number: u32, text: &mut [u8]) -> usize
@@ -92,7 +92,7 @@ pub extern "C" fn spcwave_registers(player: &mut SpcwavePlayer, registers: &mut 
     *registers = *spc_player::registers(player.owned.player());
 }
 
-/// Tells what shows of voice 0 to 7 at the position. Where it isn't told it stays as it was.
+/// Writes what shows of voice 0 to 7 at the position. Where it isn't known it stays as it was.
 #[unsafe(no_mangle)]
 pub extern "C" fn spcwave_voice(
     player: &mut SpcwavePlayer,

@@ -10,7 +10,7 @@ use Rattle.rate_clock.specs.Counter.{periods, offsets, fires}
 use Rattle.rate_clock.specs.Inside.{rest_at}
 use Rattle.rate_clock.proofs.Tables.{list_all-entry}
 
--- a multiple of 2m and of an odd part o is a multiple of o * 2m, where o is told from halves
+-- a multiple of 2m and of an odd part o is a multiple of o * 2m, where o is separated from halves
 divides_both : (o : ℕ) → ((y : ℕ) → (2 * y) % o ≡ 0 → y % o ≡ 0) → (k x : ℕ) → x % o ≡ 0 → x % 2 ^ k ≡ 0 → x % (o * 2 ^ k) ≡ 0
 divides_both o halves zero x by_o by_power = let one : o * 2 ^ 0 ≡ o = omega arith in rw one by_o
 divides_both o halves (suc k) x by_o by_power =
@@ -51,7 +51,7 @@ halves_of_five y h = omega arith
 both_tests : (rate a b c d : ℕ) → 0 < rate → ((rate == 0) || ((a == b) && (c == d))) ≡ true → (a ≡ b) × (c ≡ d)
 both_tests rate a b c d positive test = (grind (arith, nat_tests), grind (arith, nat_tests))
 
--- the odd part of a period, which its rate's offset tells
+-- the odd part of a period, which its rate's offset shows
 abbrev pub odd_part : ℕ → ℕ
 odd_part offset = if offset == 1040 then 3 else if offset == 536 then 5 else 1
 
@@ -74,7 +74,7 @@ from_parts o halves period low rest k x whole ones same =
     let power : bit_and x low ≡ x % 2 ^ k = rw ones (and_mask x k) in
     rw (whole, power, same) (by_parts o halves k x)
 
--- the same, where the offset tells the odd part
+-- the same, where the offset shows the odd part
 test_by_parts : (period low offset k counter : ℕ) → period ≡ odd_part offset * 2 ^ k → low ≡ 2 ^ k - 1
     → ((counter + offset) % period == 0) ≡ ((bit_and (counter + offset) low == 0) && (rest_at counter offset == 0))
 test_by_parts period low offset k counter whole ones =

@@ -16,6 +16,6 @@ inside_of n = record { counter = n; thirds = (n + 1040) % 3; fifths = (n + 536) 
 pub inside_of-counter : (c : Inside) → IsClock c → inside_of c.counter ≡ c
 inside_of-counter c h = rw (← h.thirds, ← h.fifths)
 
--- the rest by the odd part of a period: the offset tells the odd part
+-- the rest by the odd part of a period: the offset shows the odd part
 abbrev pub rest_at : (counter offset : ℕ) → ℕ
 rest_at counter offset = if offset == 1040 then (counter + 1040) % 3 else if offset == 536 then (counter + 536) % 5 else 0

@@ -133,7 +133,7 @@ impl RateClock {
     }
 
     /// Whether a rate, 0 to 31, fires at this sample. A period is a power of 2, or three or five times
-    /// one, so low bits and a rest tell, and nothing is divided.
+    /// one, so low bits and a rest show, and nothing is divided.
     pub fn fires(&self, rate: u8) -> bool
         requires { rate < 32 }
         ensures { result ≡ fires rate self.now }

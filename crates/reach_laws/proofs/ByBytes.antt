@@ -28,7 +28,7 @@ use Rattle.dsp_state.proofs.ReadOnce.{same_settings}
 use Rattle.dsp_state.proofs.Valid.{echo-before_voices}
 use Rattle.reach_laws.specs.Chain.{AllStayOnChains}
 use Rattle.reach_laws.specs.CellsMiss.{CellsMiss, CellsMissChain, CellsMissVoices}
-use Rattle.reach_laws.proofs.Keys.{IsPart, waiting-before_voices, taken_waited}
+use Rattle.reach_laws.proofs.Keys.{IsPart, kon_pending-before_voices, latched_was_pending}
 use Rattle.reach_laws.proofs.OneSample.{sample_is}
 use Rattle.reach_laws.proofs.Same.{AreSameOnChain, AllSameFor}
 use Rattle.reach_laws.proofs.Voices.{FindTheSame, voices_at_start, voices_stay}
@@ -89,7 +89,7 @@ apart_from_same a b at same off = rw same off
 -- is j cells further, the bytes off these cells are as they were, and the voices are on their chains.
 pub record StaysByBytes (start : ChipState) (before : List ℕ) (j : ℕ) (s : ChipState) (memory : List ℕ) : Type 0 where
   pub inputs : SameInputs s.registers start.registers
-  pub waiting : IsPart s.hidden.waiting start.hidden.waiting
+  pub kon_pending : IsPart s.hidden.kon_pending start.hidden.kon_pending
   pub offset : s.hidden.echo.offset ≡ (after_cells start.hidden.echo (echo_regs start.registers).edl j).offset
   pub length : s.hidden.echo.length ≡ (after_cells start.hidden.echo (echo_regs start.registers).edl j).length
   pub bytes : (at : ℕ) → IsApartFromCells start j at → byte_at memory at ≡ byte_at before at
@@ -98,7 +98,7 @@ pub record StaysByBytes (start : ChipState) (before : List ℕ) (j : ℕ) (s : C
 stays_at_start : (s : ChipState) (memory : List ℕ) → is_valid s ≡ true → StaysByBytes s memory 0 s memory
 stays_at_start s memory valid = record {
   inputs = λ address h. refl;
-  waiting = λ v h. h;
+  kon_pending = λ v h. h;
   offset = refl;
   length = refl;
   bytes = λ at off. refl;
@@ -109,7 +109,7 @@ stays_at_start s memory valid = record {
 stays_polled : (start : ChipState) (before : List ℕ) (j k : ℕ) (s : ChipState) (memory : List ℕ) → StaysByBytes start before j s memory → StaysByBytes start before j (before_voices s k) memory
 stays_polled start before j k s memory stays = record {
   inputs = λ address h. ap (λ (registers : List ℕ). slice_index registers address) (registers-before_voices s k) ∙ stays.inputs address h;
-  waiting = λ v h. stays.waiting v (waiting-before_voices s k v h);
+  kon_pending = λ v h. stays.kon_pending v (kon_pending-before_voices s k v h);
   offset = ap (λ (e : EchoState). e.offset) (echo-before_voices s k) ∙ stays.offset;
   length = ap (λ (e : EchoState). e.length) (echo-before_voices s k) ∙ stays.length;
   bytes = stays.bytes;
@@ -125,7 +125,7 @@ module _ (cell : ℕ → ℕ) (start : ChipState) (before : List ℕ) (n : ℕ) 
       record {
         registers = now.inputs;
         bytes = all_missed cell start before memory n j are below stays.bytes 0 start.hidden.voices miss;
-        keyed = λ v keyed. let parts = and_parts (k % 2 == 0) (has_bit (before_voices s k).hidden.taken v) keyed in stays.waiting v (taken_waited s k v parts.0 parts.1);
+        keyed = λ v keyed. let parts = and_parts (k % 2 == 0) (has_bit (before_voices s k).hidden.kon_latched v) keyed in stays.kon_pending v (latched_was_pending s k v parts.0 parts.1);
       }
 
   -- one sample keeps it
@@ -160,7 +160,7 @@ module _ (cell : ℕ → ℕ) (start : ChipState) (before : List ℕ) (n : ℕ) 
       next : StaysByBytes start before (j + 1) (rest_of_sample k now memory).state (rest_of_sample k now memory).memory
       next = record {
         inputs = λ address h. same_inputs-registers_after answers now.registers address h ∙ held.inputs address h;
-        waiting = held.waiting;
+        kon_pending = held.kon_pending;
         offset = place.0;
         length = place.1;
         bytes = λ at off.

@@ -24,18 +24,18 @@ is_part-without_bits : (byte bits : ℕ) → IsPart (without_bits byte bits) byt
 is_part-without_bits byte bits = is_part-bit_and byte (0xff - bits)
 
 -- the poll and the noise let no more key-ons wait
-pub waiting-before_voices : (s : ChipState) (k : ℕ) → IsPart (before_voices s k).hidden.waiting s.hidden.waiting
+pub kon_pending-before_voices : (s : ChipState) (k : ℕ) → IsPart (before_voices s k).hidden.kon_pending s.hidden.kon_pending
 unfolding after_poll after_noise
-waiting-before_voices s k = by (k % 2 == 0)
+kon_pending-before_voices s k = by (k % 2 == 0)
   where
-    waiting : ℕ
-    waiting = without_bits s.hidden.waiting s.hidden.taken
+    kon_pending : ℕ
+    kon_pending = without_bits s.hidden.kon_pending s.hidden.kon_latched
 
-    by : (b : Bool) → IsPart (if b then record s { hidden = record s.hidden { waiting = waiting; taken = waiting } } else s).hidden.waiting s.hidden.waiting
-    by true = is_part-without_bits s.hidden.waiting s.hidden.taken
+    by : (b : Bool) → IsPart (if b then record s { hidden = record s.hidden { kon_pending = kon_pending; kon_latched = kon_pending } } else s).hidden.kon_pending s.hidden.kon_pending
+    by true = is_part-without_bits s.hidden.kon_pending s.hidden.kon_latched
     by false = λ v h. h
 
 -- a key-on that a poll takes has waited
-pub taken_waited : (s : ChipState) (k v : ℕ) → (k % 2 == 0) ≡ true → has_bit (before_voices s k).hidden.taken v ≡ true → has_bit s.hidden.waiting v ≡ true
+pub latched_was_pending : (s : ChipState) (k v : ℕ) → (k % 2 == 0) ≡ true → has_bit (before_voices s k).hidden.kon_latched v ≡ true → has_bit s.hidden.kon_pending v ≡ true
 unfolding after_poll after_noise
-taken_waited s k v even h = is_part-without_bits s.hidden.waiting s.hidden.taken v (rw even at h)
+latched_was_pending s k v even h = is_part-without_bits s.hidden.kon_pending s.hidden.kon_latched v (rw even at h)

@@ -24,7 +24,7 @@ use Rattle.echo_unit.proofs.Cells.{cell_of, is_at_cell-next_echo}
 use Rattle.dsp_state.proofs.Valid.{valid_of, echo-before_voices}
 use Rattle.reach_laws.specs.Chain.{AllStayOnChains}
 use Rattle.dsp_state.proofs.Inputs.{SameInputs, same_inputs-registers_after, registers-before_voices}
-use Rattle.reach_laws.proofs.Keys.{IsPart, waiting-before_voices, taken_waited}
+use Rattle.reach_laws.proofs.Keys.{IsPart, kon_pending-before_voices, latched_was_pending}
 use Rattle.reach_laws.proofs.EchoPlace.{length-next_echo}
 use Rattle.echo_unit.proofs.ApartFromCell.{IsApartFromCell, byte_at-echo_memory, echo_memory_still}
 use Rattle.reach_laws.proofs.EchoPages.{apart_from_window, after_reading_apart, next_echo_apart, echo_memory_apart}
@@ -36,7 +36,7 @@ use Rattle.reach_laws.proofs.Voices.{FindTheSame, all_same, voices_at_start, voi
 -- the start isn't entangled, the voices are on their chains.
 pub record StaysInReach (start : ChipState) (before : List ℕ) (j : ℕ) (s : ChipState) (memory : List ℕ) : Type 0 where
   pub inputs : SameInputs s.registers start.registers
-  pub waiting : IsPart s.hidden.waiting start.hidden.waiting
+  pub kon_pending : IsPart s.hidden.kon_pending start.hidden.kon_pending
   pub cell : is_at_cell s.hidden.echo ≡ true
   pub length : s.hidden.echo.length ≤ max start.hidden.echo.length (echo_length (slice_index start.registers EDL))
   pub bytes : (at : ℕ) → set.contains (chip_reach start before).write_pages (page_of at) ≡ false → byte_at memory at ≡ byte_at before at
@@ -46,7 +46,7 @@ pub record StaysInReach (start : ChipState) (before : List ℕ) (j : ℕ) (s : C
 pub stays_at_start : (s : ChipState) (memory : List ℕ) → is_valid s ≡ true → StaysInReach s memory 0 s memory
 stays_at_start s memory valid = record {
   inputs = λ address h. refl;
-  waiting = λ v h. h;
+  kon_pending = λ v h. h;
   cell = (valid_of s valid).cell;
   length = omega arith;
   bytes = λ at none. refl;
@@ -61,7 +61,7 @@ sample_is k s memory = refl
 stays_polled : (start : ChipState) (before : List ℕ) (j k : ℕ) (s : ChipState) (memory : List ℕ) → StaysInReach start before j s memory → StaysInReach start before j (before_voices s k) memory
 stays_polled start before j k s memory stays = record {
   inputs = λ address h. ap (λ (registers : List ℕ). slice_index registers address) (registers-before_voices s k) ∙ stays.inputs address h;
-  waiting = λ v h. stays.waiting v (waiting-before_voices s k v h);
+  kon_pending = λ v h. stays.kon_pending v (kon_pending-before_voices s k v h);
   cell = ap is_at_cell (echo-before_voices s k) ∙ stays.cell;
   length = rw (echo-before_voices s k) stays.length;
   bytes = stays.bytes;
@@ -76,7 +76,7 @@ finds start before j k s memory few stays clear =
     record {
       registers = now.inputs;
       bytes = all_same start before j 0 start.hidden.voices memory before few (λ at there. stays.bytes at (voices_unwritten start before (page_of at) clear there));
-      keyed = λ v keyed. let parts = and_parts (k % 2 == 0) (has_bit (before_voices s k).hidden.taken v) keyed in stays.waiting v (taken_waited s k v parts.0 parts.1);
+      keyed = λ v keyed. let parts = and_parts (k % 2 == 0) (has_bit (before_voices s k).hidden.kon_latched v) keyed in stays.kon_pending v (latched_was_pending s k v parts.0 parts.1);
     }
 
 -- the registers that the echo reads
@@ -139,7 +139,7 @@ stays_in_reach start before j k s memory few stays = rw (sample_is k s memory) n
     next : StaysInReach start before (j + 1) (rest_of_sample k now memory).state (rest_of_sample k now memory).memory
     next = record {
       inputs = λ address h. same_inputs-registers_after answers now.registers address h ∙ held.inputs address h;
-      waiting = held.waiting;
+      kon_pending = held.kon_pending;
       cell = is_at_cell-next_echo now.hidden.echo regs memory held.cell;
       length = length-next_echo now.hidden.echo regs memory start.hidden.echo.length (slice_index start.registers EDL) edl held.length;
       bytes = λ at none. writes_apart start before j now memory (sent_frame (all_volumes now.registers now.muted) answers) at held none ∙ held.bytes at none;

@@ -64,7 +64,7 @@ rest_in memory starts rest entry entries p h =
 pub record FindTheSame (s : ChipState) (memory : List ℕ) (j v : ℕ) (olds : List VoiceState) (shared : SharedInput) : Type 0 where
   pub registers : (address : ℕ) → is_result address ≡ false → slice_index shared.registers address ≡ slice_index s.registers address
   pub bytes : AllSameFor s memory j v olds shared.memory memory
-  pub keyed : (u : ℕ) → (shared.common.is_poll && has_bit shared.common.taken u) ≡ true → has_bit s.hidden.waiting u ≡ true
+  pub keyed : (u : ℕ) → (shared.common.is_poll && has_bit shared.common.kon_latched u) ≡ true → has_bit s.hidden.kon_pending u ≡ true
 
 -- the bytes of all but the first
 pub rest_agree : (s : ChipState) (memory : List ℕ) (v : ℕ) (old : VoiceState) (olds : List VoiceState) (m n : List ℕ)
@@ -159,10 +159,10 @@ all_at_start : (s : ChipState) (memory : List ℕ) (v : ℕ) (voices : List Voic
 all_at_start s memory v [] groups = tt
 all_at_start s memory v (voice ∷ voices) groups =
     let both = and_parts (is_at_group voice) (list_all is_at_group voices) groups in
-    (record { on = inl (on_first memory (own_chain s memory v voice) 0 voice refl both.0); waits = waiting }, all_at_start s memory (v + 1) voices both.1)
+    (record { on = inl (on_first memory (own_chain s memory v voice) 0 voice refl both.0); waits = kon_pending }, all_at_start s memory (v + 1) voices both.1)
   where
-    waiting : voice.delay ≢ 0 → can_start s v voice ≡ true
-    waiting some = let no : (voice.delay == 0) ≡ false = grind (arith, nat_tests, some) in rw no (or_right (has_bit s.hidden.waiting v) true refl)
+    kon_pending : voice.delay ≢ 0 → can_start s v voice ≡ true
+    kon_pending some = let no : (voice.delay == 0) ≡ false = grind (arith, nat_tests, some) in rw no (or_right (has_bit s.hidden.kon_pending v) true refl)
 
 pub voices_at_start : (s : ChipState) (memory : List ℕ) → is_valid s ≡ true → AllStayOnChains s memory 0 0 s.hidden.voices s.hidden.voices
 unfolding is_valid

@@ -5,7 +5,7 @@ use Rattle.voice_unit.specs.Voice.{VoiceState}
 use Rattle.reach_map.specs.Reach.{chain_entry}
 use Rattle.reach_map.specs.declared.ChainStart.{ChainStart}
 use Rattle.echo_unit.specs.Cells.{cell_after}
-use Rattle.chip_form.specs.Limits.{most_samples_of_batch}
+use Rattle.chip_form.specs.Limits.{max_samples_of_batch}
 use Rattle.chip_form.specs.Samples.{samples}
 use Rattle.dsp_state.specs.Reach.{voice_entry, can_start, own_chain, start_chain}
 use Rattle.dsp_state.specs.Registers.{echo_regs}
@@ -36,6 +36,6 @@ CellsMissVoices cell s memory n v (voice ∷ voices) = CellsMissVoice cell s mem
 -- from a valid state whose next n cells have no byte that a voice can read in n samples, each voice stays on its chains over them
 abbrev pub VoicesStayByBytes : Type 0
 VoicesStayByBytes =
-    (n j k : ℕ) (s : ChipState) (memory : List ℕ) → j ≤ n → n ≤ most_samples_of_batch → is_valid s ≡ true
+    (n j k : ℕ) (s : ChipState) (memory : List ℕ) → j ≤ n → n ≤ max_samples_of_batch → is_valid s ≡ true
     → CellsMissVoices (cell_after s.hidden.echo (echo_regs s.registers)) s memory n 0 s.hidden.voices
     → AllStayOnChains s memory j 0 s.hidden.voices (samples sample j k s memory).state.hidden.voices

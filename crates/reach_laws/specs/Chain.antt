@@ -4,7 +4,7 @@ use Rattle.voice_unit.specs.Voice.{VoiceState, is_at_group}
 use Rattle.reach_map.specs.Reach.{chain_entry}
 use Rattle.reach_map.specs.declared.ChainStart.{ChainStart}
 use Rattle.dsp_state.specs.declared.state.ChipState.{ChipState}
-use Rattle.chip_form.specs.Limits.{most_samples_of_batch}
+use Rattle.chip_form.specs.Limits.{max_samples_of_batch}
 use Rattle.dsp_state.specs.Reach.{can_start, own_chain, start_chain, chip_reach}
 use Rattle.dsp_state.specs.Sample.{sample}
 use Rattle.chip_form.specs.Samples.{samples}
@@ -34,5 +34,5 @@ AllStayOnChains s memory j v (old ∷ olds) [] = ⊥
 -- from a valid state whose echo can't write what its voices read, each voice stays on its chains over the samples of a batch
 abbrev pub VoicesStayOnChains : Type 0
 VoicesStayOnChains =
-    (j k : ℕ) (s : ChipState) (memory : List ℕ) → j ≤ most_samples_of_batch → is_valid s ≡ true → (chip_reach s memory).entangled ≡ false
+    (j k : ℕ) (s : ChipState) (memory : List ℕ) → j ≤ max_samples_of_batch → is_valid s ≡ true → (chip_reach s memory).entangled ≡ false
     → AllStayOnChains s memory j 0 s.hidden.voices (samples sample j k s memory).state.hidden.voices

@@ -87,11 +87,11 @@ module _ {S I : Type 0} (bus : BusMeaning S) (lawful : IsLawful bus) (cleared : 
 
       pub end-after_run-settled : (at_rest : S → S) → ((s : S) → at_rest (cleared s) ≡ at_rest s) → at_rest settled ≡ at_rest next
           → resting at_rest (after_run bus samples (cpu, next)) ≡ resting at_rest (after_run bus samples (cpu, drained))
-      end-after_run-settled at_rest beside told = elim (cases_lt (bus.due next) samples) [
+      end-after_run-settled at_rest beside known = elim (cases_lt (bus.due next) samples) [
         | inl more ↦ end-after_run-drained at_rest beside cpu next drained got (ap items (sym (still more)) ∙ split) (same ∙ ap cleared (still more))
         | inr all ↦
             let all_drained : samples ≤ bus.due drained = subst (λ (n : ℕ). samples ≤ n) (sym due-drained) all in
-            let rest = sym told ∙ sym (beside settled) ∙ ap at_rest (sym same) ∙ beside drained in
+            let rest = sym known ∙ sym (beside settled) ∙ ap at_rest (sym same) ∙ beside drained in
             ap (resting at_rest) (after_run-reached bus lawful samples (cpu, next) all)
             ∙ ap (λ (s : S). (cpu, s)) rest
             ∙ ap (resting at_rest) (sym (after_run-reached bus lawful samples (cpu, drained) all_drained))

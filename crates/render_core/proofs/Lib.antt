@@ -16,7 +16,7 @@ pub mod RunsOfSeenBus
 pub mod LaggingRun
 -- NextPiece: the next piece of a render, from a run of the machine with the lag book.
 pub mod NextPiece
--- RunAfterWait: a run goes on after rounds that were made at once.
+-- RunAfterWait: a run goes on after iterations that were made at once.
 pub mod RunAfterWait
 -- CountedSteps: between two states of a bus its chip counts on.
 pub mod CountedSteps

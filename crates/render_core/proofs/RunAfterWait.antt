@@ -1,4 +1,4 @@
--- A run goes on after rounds that were made at once, and after steps that were taken.
+-- A run goes on after iterations that were made at once, and after steps that were taken.
 use Rattle.std.proofs.Common.{◌≡◌, ℕ, zero, suc, ◌/◌, ◌<◌, ◌≤◌, List, [], refl, sym, ap, ◌∙◌, arith}
 use Rattle.spc700_exec.specs.declared.cpu.Cpu.{Cpu}
 use Rattle.spc700_exec.specs.Bus.{BusMeaning, IsLawful}
@@ -13,8 +13,8 @@ use Rattle.render_core.specs.BetweenSteps.{RunsAlike}
 use Rattle.render_core.proofs.RunBySteps.{after_run-next}
 use Rattle.render_core.proofs.ItemsBeforeRun.{items-after_run-drained, end-after_run-drained}
 use Rattle.render_core.proofs.CountedSteps.{counted-steps}
-use Rattle.idle_rounds.specs.Looking.{after_n_steps}
-use Rattle.lock_step.specs.WaitOfRounds.{IsWaitOf}
+use Rattle.idle_loops.specs.Looking.{after_n_steps}
+use Rattle.lock_step.specs.WaitOfIterations.{IsWaitOf}
 use Rattle.lock_step.specs.StepsOfRun.{AreStepsOf}
 use Rattle.spc700_exec.specs.declared.bus.TheConstants.{CYCLES_PER_SAMPLE}
 

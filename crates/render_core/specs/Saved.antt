@@ -1,6 +1,6 @@
 -- What is saved of a whole machine beside its memory, and a render once that is loaded.
 use Rattle.std.specs.Prelude.{◌≤◌, ℕ, List}
-use Rattle.num_fix.specs.Limits.{most_frames}
+use Rattle.num_fix.specs.Limits.{max_frames}
 use Rattle.chip_form.specs.ChipMeaning.{ChipMeaning}
 use Rattle.chip_form.specs.ChipSaving.{ChipSaving}
 use Rattle.lock_step.specs.Machine.{Machine}
@@ -20,7 +20,7 @@ with_saved_chip saved chip = record saved { bus = record saved.bus { chip = chip
 -- what can be loaded, as all that is saved: a render may be as long as the samples made by then
 pub record CanBePlayed {S V : Type 0} (saving : ChipSaving S V) (saved : PlayState V) : Type 0 where
   pub bus : CanBeLoaded saving saved.bus
-  pub few : saving.number saved.bus.chip ≤ most_frames
+  pub few : saving.number saved.bus.chip ≤ max_frames
 
 -- a render once that is loaded over a memory: its length is where it was saved
 abbrev pub loaded_render : {S V : Type 0} → ChipMeaning S → ChipSaving S V → RenderState S → PlayState V → (memory : List ℕ) → RenderState S

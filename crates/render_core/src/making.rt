@@ -1,7 +1,7 @@
 // One piece, over any bus that emits.
 ghost use Rattle.std.specs.Prelude.{nat_le, ◌≡◌, ◌+◌, ◌*◌, ◌<◌, ◌≤◌, [], length, true, false};
 ghost use Rattle.render_core.specs.BetweenSteps.{IsBetweenSteps, RunsAlike, HandsOver, IsOver};
-ghost use Rattle.num_fix.specs.Limits.{most_frames};
+ghost use Rattle.num_fix.specs.Limits.{max_frames};
 ghost use Rattle.render_core.specs.Items.{run_frames, records_before};
 ghost use Rattle.lock_step.specs.Emits.{IsCountedOn};
 
@@ -39,7 +39,7 @@ fn settle_at_end<B: DrainedBus>(bus: &mut B, samples: u32)
     }
 }
 
-/// The lists of a piece, one for the records as they are drained, and how long no rounds are tried.
+/// The lists of a piece, one for the records as they are drained, and how long no iterations are tried.
 #[derive(Drop)]
 pub(crate) struct Lists {
     pub(crate) frames: Frames,
@@ -69,7 +69,7 @@ impl Lists {
 /// The longest pause between two trials.
 const LONGEST_TRIAL_PAUSE: u8 = 63;
 
-/// How long no rounds are tried, in fillings of the bus's room for calls. After a trial by which no sample fell due it is twice as long as before and
+/// How long no iterations are tried, in fillings of the bus's room for calls. After a trial by which no sample fell due it is twice as long as before and
 /// one more, up to the longest one.
 #[derive(Drop)]
 pub(crate) struct TrialPause {
@@ -101,10 +101,15 @@ impl TrialPause {
     }
 }
 
-/// Where it is time for a trial, makes at once whole rounds of the loop at which the processor stands, as far as they only wait.
-fn make_rounds_if_due<B: DrainedBus>(cpu: &Cpu, bus: &mut B, samples: u32, pause: &mut TrialPause)
+/// Where it is time for a trial, makes at once whole iterations of the loop at which the processor stands, as far as they only wait.
+fn make_iterations_if_due<B: DrainedBus>(
+    cpu: &Cpu,
+    bus: &mut B,
+    samples: u32,
+    pause: &mut TrialPause,
+)
     requires more { B.means.due bus.old < samples }
-    requires few { samples ≤ most_frames }
+    requires few { samples ≤ max_frames }
     ensures alike { RunsAlike B.means B.emits samples (cpu.now, bus.old) (cpu.now, bus.new) }
     ensures later { B.means.clock bus.old ≤ B.means.clock bus.new }
     ensures more { B.means.due bus.new < samples }
@@ -117,9 +122,9 @@ fn make_rounds_if_due<B: DrainedBus>(cpu: &Cpu, bus: &mut B, samples: u32, pause
     }
 }
 
-/// Steps of the run, one at least: rounds that only wait, where it is time for a trial, and steps one by one until the run ends, the
+/// Steps of the run, one at least: iterations that only wait, where it is time for a trial, and steps one by one until the run ends, the
 /// processor halts, or the room for calls is filled and something is to be drained or it is time for a trial again.
-fn take_rounds_and_steps<B: DrainedBus>(
+fn take_iterations_and_steps<B: DrainedBus>(
     cpu: &mut Cpu,
     bus: &mut B,
     samples: u32,
@@ -127,11 +132,11 @@ fn take_rounds_and_steps<B: DrainedBus>(
 )
     requires calls { B.means.calls bus.old ≡ 0 }
     requires more { B.means.due bus.old < samples }
-    requires few { samples ≤ most_frames }
+    requires few { samples ≤ max_frames }
     ensures alike { RunsAlike B.means B.emits samples (cpu.old, bus.old) (cpu.new, bus.new) }
     ensures later { B.means.clock bus.old < B.means.clock bus.new }
 {
-    make_rounds_if_due(cpu, bus, samples, pause);
+    make_iterations_if_due(cpu, bus, samples, pause);
     pause.left = bus.take_steps(cpu, samples, pause.left);
 }
 
@@ -139,18 +144,18 @@ fn take_rounds_and_steps<B: DrainedBus>(
 fn step_and_drain<B: DrainedBus>(cpu: &mut Cpu, bus: &mut B, samples: u32, lists: &mut Lists)
     requires no_calls { B.means.calls bus.old ≡ 0 }
     requires more { B.means.due bus.old < samples }
-    requires few { samples ≤ most_frames }
+    requires few { samples ≤ max_frames }
     ensures hands_over { HandsOver B.means B.emits samples (cpu.old, bus.old) (cpu.new, bus.new) lists.new.frames lists.new.records }
     ensures between_steps { IsBetweenSteps B.means B.emits samples bus.new }
     ensures later { B.means.clock bus.old < B.means.clock bus.new }
 {
-    take_rounds_and_steps(cpu, bus, samples, &mut lists.pause);
+    take_iterations_and_steps(cpu, bus, samples, &mut lists.pause);
     settle_at_end(bus, samples);
     bus.drain(&mut lists.frames, &mut lists.drained);
     keep_records_before(&lists.drained, samples, &mut lists.records);
 }
 
-/// Makes the next piece of a run to so many samples, and tells whether it is the last one: steps until a frame or a record
+/// Makes the next piece of a run to so many samples, and returns whether it is the last one: steps until a frame or a record
 /// was emitted, or all samples are made. It looks only where the bus ends its steps.
 pub(crate) fn make_piece<B: DrainedBus>(
     cpu: &mut Cpu,
@@ -159,7 +164,7 @@ pub(crate) fn make_piece<B: DrainedBus>(
     lists: &mut Lists,
 ) -> bool
     requires between_steps { IsBetweenSteps B.means B.emits samples bus.old }
-    requires few { samples ≤ most_frames }
+    requires few { samples ≤ max_frames }
     ensures hands_over { HandsOver B.means B.emits samples (cpu.old, bus.old) (cpu.new, bus.new) lists.new.frames lists.new.records }
     ensures between_steps { IsBetweenSteps B.means B.emits samples bus.new }
     ensures over { result ≡ true → IsOver B.means B.emits samples (cpu.new, bus.new) }

@@ -3,7 +3,7 @@ ghost use Rattle.std.specs.Prelude.{◌≡◌, ◌+◌, ◌-◌, ◌<◌, ◌≤
 ghost use Rattle.std.specs.Borrow.{sem};
 ghost use Rattle.std.specs.Io.BufRead.{Rests};
 ghost use Rattle.trace_form.specs.Rooms.{frame_room, record_room};
-ghost use Rattle.num_fix.specs.Limits.{most_frames};
+ghost use Rattle.num_fix.specs.Limits.{max_frames};
 ghost use Rattle.lock_step.specs.LockStep.{samples_due};
 ghost use Rattle.lag_bus.specs.Lagging.{MatchesBook};
 ghost use Rattle.render_core.specs.Opening.{opened_whole, opened_cpu};
@@ -35,7 +35,7 @@ pub struct Render<C: Chip> {
 
 impl<C: Chip> Model for Render<C> {
     ghost use Rattle.std.specs.Prelude.{◌≤◌};
-    ghost use Rattle.num_fix.specs.Limits.{most_frames};
+    ghost use Rattle.num_fix.specs.Limits.{max_frames};
     ghost use Rattle.lock_step.specs.LockStep.{samples_due};
     ghost use Rattle.lag_bus.specs.Lagging.{lagging};
     ghost use Rattle.lag_bus.specs.LagEmits.{lag_emits};
@@ -56,7 +56,7 @@ impl<C: Chip> Model for Render<C> {
       records = r.lists.records;
     } };
 
-    ghost invariant = { λ r. (r.samples ≤ most_frames)
+    ghost invariant = { λ r. (r.samples ≤ max_frames)
         × IsBetweenSteps (lagging C.meaning) (lag_emits C.meaning) r.samples r.bus
         × (samples_due r.bus.machine ≤ r.samples) };
 }
@@ -101,7 +101,7 @@ impl<C: Chip> Render<C> {
         samples: u32,
         mask: u8,
     ) -> Result<Render<C>, OutOfMemory>
-        requires few { samples ≤ most_frames }
+        requires few { samples ≤ max_frames }
         requires sample { C.sample chip ≡ 0 }
         requires batches { C.batches chip ≡ 0 }
         ensures { IfOk result (λ render. IsOpenedOver C.meaning (opened_whole file.now (C.state chip) mask) (C.total chip) samples render) }
@@ -117,7 +117,7 @@ impl<C: Chip> Render<C> {
         })
     }
 
-    /// Makes the next piece, and tells whether it is the last one.
+    /// Makes the next piece, and returns whether it is the last one.
     fn make_next(&mut self) -> bool
         ensures { IsNextPiece C.meaning self.old self.new self.new.frames self.new.records result }
     {
@@ -190,7 +190,7 @@ impl<C: Chip> Render<C> {
     pub fn aim(&mut self, samples: u32)
         requires done { is_at_length self.old ≡ true }
         requires later { self.old.samples ≤ samples }
-        requires few { samples ≤ most_frames }
+        requires few { samples ≤ max_frames }
         ensures { self.new ≡ record self.old { samples = samples } }
     {
         self.samples = samples;

@@ -2,7 +2,7 @@
 use Rattle.std.specs.Prelude.{◌≡◌, ℕ, ◌+◌, ◌-◌, ◌*◌, ◌≤◌, ◌++◌, Bool, true, List, [], length, if◌then◌else◌}
 use Rattle.std.specs.List.{flat_map}
 use Rattle.num_fix.specs.declared.Frame.{Frame}
-use Rattle.num_fix.specs.Limits.{most_frames}
+use Rattle.num_fix.specs.Limits.{max_frames}
 use Rattle.wav_form.specs.Wave.{frame_bytes, frame_size}
 use Rattle.trace_form.specs.declared.record.Record.{Record}
 use Rattle.trace_form.specs.declared.text.TheConstants.{LINE_SIZE}
@@ -12,7 +12,7 @@ use Rattle.spc700_exec.specs.declared.bus.TheConstants.{CYCLES_PER_SAMPLE}
 use Rattle.chip_form.specs.ChipMeaning.{ChipMeaning}
 use Rattle.render_core.specs.RenderState.{RenderState, frames_to_come, records_to_come, counts_to_come}
 use Rattle.render_core.specs.Fade.{faded_from}
-use Rattle.command_frame.specs.Stream.{Both}
+use Rattle.command_runner.specs.Stream.{Both}
 use Rattle.render_files.specs.RenderReport.{sound_report}
 
 -- the bytes of a frame of two channels
@@ -20,12 +20,12 @@ abbrev pub stereo_size : ℕ
 stereo_size = frame_size 2
 
 -- the bytes of the most frames that a piece has
-abbrev pub most_bytes_of_frames : ℕ
-most_bytes_of_frames = stereo_size * frame_room
+abbrev pub max_bytes_of_frames : ℕ
+max_bytes_of_frames = stereo_size * frame_room
 
 -- the bytes of the most lines that it has
-abbrev pub most_bytes_of_lines : ℕ
-most_bytes_of_lines = LINE_SIZE * record_room
+abbrev pub max_bytes_of_lines : ℕ
+max_bytes_of_lines = LINE_SIZE * record_room
 
 pub record FilesState (S : Type 0) : Type 0 where
   pub render : RenderState S
@@ -75,11 +75,11 @@ work_of files = CYCLES_PER_SAMPLE * files.samples - files.render.bus.machine.clo
 
 -- The frames that were made and those to come are all, of which the last `fade` fade; the report stands once all are made.
 pub record IsComplete {S : Type 0} (chip : ChipMeaning S) (render : RenderState S) (made samples fade : ℕ) (is_done : Bool) (report : List ℕ) : Type 0 where
-  pub limit : samples ≤ most_frames
+  pub limit : samples ≤ max_frames
   pub within : fade ≤ samples
   pub same : render.samples ≡ samples
   pub all : made + length (frames_to_come chip render) ≡ samples
-  pub told : is_done ≡ true → report ≡ sound_report samples (counts_to_come chip render)
+  pub known : is_done ≡ true → report ≡ sound_report samples (counts_to_come chip render)
 
 -- Of a render that has made nothing, so many samples are to come.
 pub record IsUnmade {S : Type 0} (chip : ChipMeaning S) (render : RenderState S) (samples : ℕ) : Type 0 where

@@ -7,17 +7,17 @@ ghost use Rattle.trace_form.specs.declared.text.TheConstants.{LINE_SIZE};
 ghost use Rattle.render_core.specs.Fade.{faded_from, faded_frames};
 ghost use Rattle.render_core.specs.RenderState.{frames_to_come, records_to_come, counts_to_come};
 ghost use Rattle.render_files.specs.RenderReport.{sound_report};
-ghost use Rattle.num_fix.specs.Limits.{most_frames};
-ghost use Rattle.render_files.specs.RenderFiles.{stereo_size, most_bytes_of_frames, most_bytes_of_lines, trace_of, to_come_of, wave_from_piece, trace_from_piece, held_of, report_of, work_of, IsUnmade};
+ghost use Rattle.num_fix.specs.Limits.{max_frames};
+ghost use Rattle.render_files.specs.RenderFiles.{stereo_size, max_bytes_of_frames, max_bytes_of_lines, trace_of, to_come_of, wave_from_piece, trace_from_piece, held_of, report_of, work_of, IsUnmade};
 ghost use Rattle.report_text.specs.Room.{room_size};
 
 use crate::rows::{STEREO_SIZE, put_frames};
 use crate::sound_report::put_sound_report;
 use chip_form::Chip;
-use command_frame::{OutOfMemory, Pieces};
+use command_runner::{OutOfMemory, Pieces};
 use num_fix::Frame;
 use render_core::{Render, faded};
-use report_text::ByteRoom;
+use report_text::FixedBuffer;
 use std::alloc::Global;
 use std::marker::Model;
 use trace_form::{FRAME_ROOM, LINE_SIZE, RECORD_ROOM, Record, line};
@@ -38,10 +38,10 @@ pub struct RenderFiles<C: Chip> {
     samples: u32,
     fade: u32,
     is_traced: bool,
-    wave: ByteRoom,
-    trace: ByteRoom,
+    wave: FixedBuffer,
+    trace: FixedBuffer,
     is_done: bool,
-    report: ByteRoom,
+    report: FixedBuffer,
 }
 
 impl<C: Chip> Model for RenderFiles<C> {
@@ -68,7 +68,7 @@ impl<C: Chip> Model for RenderFiles<C> {
 }
 
 /// Adds the bytes of frames, the first of which is frame `at` of so many, of which the last `fade` fade.
-fn put_faded_frames(wave: &mut ByteRoom, frames: &[Frame], at: u32, samples: u32, fade: u32)
+fn put_faded_frames(wave: &mut FixedBuffer, frames: &[Frame], at: u32, samples: u32, fade: u32)
     requires room { length wave.old + stereo_size * length frames.now ≤ room_size }
     requires inside { at + length frames.now ≤ samples }
     requires within { fade ≤ samples }
@@ -85,7 +85,7 @@ fn put_faded_frames(wave: &mut ByteRoom, frames: &[Frame], at: u32, samples: u32
 }
 
 /// Adds the lines of records.
-fn put_lines(trace: &mut ByteRoom, records: &[Record])
+fn put_lines(trace: &mut FixedBuffer, records: &[Record])
     requires { length trace.old + LINE_SIZE * length records.now ≤ room_size }
     ensures { trace.new ≡ trace.old ++ lines_of records.now }
 {
@@ -97,9 +97,9 @@ fn put_lines(trace: &mut ByteRoom, records: &[Record])
 /// The rooms that a render's files are made in.
 #[derive(Drop)]
 struct RenderRooms {
-    wave: ByteRoom,
-    trace: ByteRoom,
-    report: ByteRoom,
+    wave: FixedBuffer,
+    trace: FixedBuffer,
+    report: FixedBuffer,
 }
 
 impl RenderRooms {
@@ -110,9 +110,9 @@ impl RenderRooms {
         ensures report { IfOk result (λ rooms. rooms.report ≡ []) }
     {
         Ok(RenderRooms {
-            wave: ByteRoom::new(alloc)?,
-            trace: ByteRoom::new(alloc)?,
-            report: ByteRoom::new(alloc)?,
+            wave: FixedBuffer::new(alloc)?,
+            trace: FixedBuffer::new(alloc)?,
+            report: FixedBuffer::new(alloc)?,
         })
     }
 }
@@ -128,7 +128,7 @@ impl<C: Chip> RenderFiles<C> {
         is_traced: bool,
     ) -> Result<RenderFiles<C>, OutOfMemory>
         requires unmade { IsUnmade C.meaning render samples }
-        requires limit { samples ≤ most_frames }
+        requires limit { samples ≤ max_frames }
         requires within { fade ≤ samples }
         ensures wave { IfOk result (λ files. header_of 2 samples ++ (to_come_of C.meaning files).wave
             ≡ stereo_wave (faded_frames (frames_to_come C.meaning render) fade)) }
@@ -151,8 +151,8 @@ impl<C: Chip> RenderFiles<C> {
 
     /// Adds the next piece of the render, and answers whether it is the last one.
     fn add_piece(&mut self) -> bool
-        requires wave_room { length self.old.wave + most_bytes_of_frames ≤ room_size }
-        requires trace_room { length self.old.trace + most_bytes_of_lines ≤ room_size }
+        requires wave_room { length self.old.wave + max_bytes_of_frames ≤ room_size }
+        requires trace_room { length self.old.trace + max_bytes_of_lines ≤ room_size }
         ensures wave_to_come { wave_from_piece C.meaning self.old ≡ wave_from_piece C.meaning self.new }
         ensures trace_to_come { trace_from_piece C.meaning self.old ≡ trace_from_piece C.meaning self.new }
         ensures wave_done { result ≡ true → (to_come_of C.meaning self.new).wave ≡ [] }

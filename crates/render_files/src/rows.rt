@@ -7,7 +7,7 @@ ghost use Rattle.report_text.specs.Room.{room_size};
 ghost use Rattle.render_files.specs.RenderFiles.{stereo_size};
 
 use num_fix::Frame;
-use report_text::ByteRoom;
+use report_text::FixedBuffer;
 use trace_form::FRAME_ROOM;
 use wav_form::put_frame;
 
@@ -18,7 +18,7 @@ pub(crate) const STEREO_SIZE: usize = 4;
 const ROW: usize = FRAME_ROOM;
 
 /// Adds the bytes of a row of frames at once.
-fn put_row(wave: &mut ByteRoom, frames: &[Frame])
+fn put_row(wave: &mut FixedBuffer, frames: &[Frame])
     requires few { length frames.now ≤ frame_room }
     requires room { length wave.old + stereo_size * length frames.now ≤ room_size }
     ensures { wave.new ≡ wave.old ++ flat_map frame_bytes frames.now }
@@ -33,7 +33,7 @@ fn put_row(wave: &mut ByteRoom, frames: &[Frame])
 }
 
 /// Adds the bytes of frames, a row at a time.
-pub fn put_frames(wave: &mut ByteRoom, frames: &[Frame])
+pub fn put_frames(wave: &mut FixedBuffer, frames: &[Frame])
     requires { length wave.old + stereo_size * length frames.now ≤ room_size }
     ensures { wave.new ≡ wave.old ++ flat_map frame_bytes frames.now }
 {

@@ -4,10 +4,10 @@ ghost use Rattle.render_files.specs.RenderReport.{batch_line, longest_batch_line
 ghost use Rattle.report_text.specs.Room.{room_size};
 
 use lock_step::Counts;
-use report_text::{ByteRoom, put_count};
+use report_text::{FixedBuffer, put_count};
 
 /// Adds the line of these counts.
-pub fn put_batches(report: &mut ByteRoom, counts: Counts)
+pub fn put_batches(report: &mut FixedBuffer, counts: Counts)
     requires { length report.old + longest_batch_line ≤ room_size }
     ensures { report.new ≡ report.old ++ batch_line counts }
 {
@@ -22,7 +22,7 @@ pub fn put_batches(report: &mut ByteRoom, counts: Counts)
 }
 
 /// Adds the report on so many samples, made in batches of these counts.
-pub fn put_sound_report(report: &mut ByteRoom, samples: u32, counts: Counts)
+pub fn put_sound_report(report: &mut FixedBuffer, samples: u32, counts: Counts)
     requires { length report.old + longest_sound_report ≤ room_size }
     ensures { report.new ≡ report.old ++ sound_report samples counts }
 {

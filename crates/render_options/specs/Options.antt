@@ -1,7 +1,7 @@
 -- The options of `render`.
 use Rattle.std.specs.Prelude.{ℕ, ◌≤◌, List, Option, IfSome}
 use Rattle.std.specs.Option.{option_map}
-use Rattle.num_fix.specs.Limits.{most_frames}
+use Rattle.num_fix.specs.Limits.{max_frames}
 use Rattle.render_options.specs.declared.RenderOptions.{RenderOptions}
 
 -- each option with its value, where it was given
@@ -26,4 +26,4 @@ options_of options = record {
 
 -- a number of samples that was given is an hour of frames at most
 abbrev pub SamplesWithinHour : Option ℕ → Type 0
-SamplesWithinHour samples = IfSome samples (λ samples. samples ≤ most_frames)
+SamplesWithinHour samples = IfSome samples (λ samples. samples ≤ max_frames)

@@ -6,5 +6,5 @@ abbrev pub room_size : ℕ
 room_size = 131072
 
 -- how many digits a count has at most
-abbrev pub most_count_digits : ℕ
-most_count_digits = 20
+abbrev pub max_count_digits : ℕ
+max_count_digits = 20

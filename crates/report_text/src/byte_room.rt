@@ -1,6 +1,6 @@
 // Bytes with a fixed room.
 ghost use Rattle.std.specs.Prelude.{◌≡◌, ◌↔◌, ◌+◌, ◌≤◌, ◌++◌, [], true, length, decimal, IfOk};
-ghost use Rattle.report_text.specs.Room.{room_size, most_count_digits};
+ghost use Rattle.report_text.specs.Room.{room_size, max_count_digits};
 
 use crate::OutOfMemory;
 use std::alloc::Global;
@@ -11,11 +11,11 @@ const ROOM_SIZE: usize = 131072;
 
 /// Up to 131,072 bytes, so that adding some takes no memory. Room that isn't used is never written.
 #[derive(Drop)]
-pub struct ByteRoom {
+pub struct FixedBuffer {
     bytes: Vec<u8>,
 }
 
-impl Model for ByteRoom {
+impl Model for FixedBuffer {
     ghost use Rattle.std.specs.Prelude.{◌≤◌, List, ℕ, vec_len, vec_capacity};
     ghost use Rattle.report_text.specs.Room.{room_size};
 
@@ -26,13 +26,13 @@ impl Model for ByteRoom {
     ghost invariant = { λ room. (room_size ≤ vec_capacity room.bytes) × (vec_len room.bytes ≤ room_size) };
 }
 
-impl ByteRoom {
+impl FixedBuffer {
     /// No bytes, and room for 131,072.
-    pub fn new(alloc: Global) -> Result<ByteRoom, OutOfMemory>
+    pub fn new(alloc: Global) -> Result<FixedBuffer, OutOfMemory>
         ensures { IfOk result (λ room. room ≡ []) }
     {
         let bytes = Vec::with_capacity(alloc, ROOM_SIZE)?;
-        Ok(ByteRoom { bytes })
+        Ok(FixedBuffer { bytes })
     }
 
     /// Whether there is room for so many more.
@@ -67,10 +67,10 @@ impl ByteRoom {
 }
 
 /// Adds a word and a count.
-pub fn put_count(report: &mut ByteRoom, word: &[u8], count: u64)
-    requires { length report.old + length word.now + most_count_digits ≤ room_size }
+pub fn put_count(report: &mut FixedBuffer, word: &[u8], count: u64)
+    requires { length report.old + length word.now + max_count_digits ≤ room_size }
     ensures text { report.new ≡ report.old ++ word.now ++ decimal count }
-    ensures len { length report.new ≤ length report.old + length word.now + most_count_digits }
+    ensures len { length report.new ≤ length report.old + length word.now + max_count_digits }
 {
     report.append(word);
     report.append(itoa::Buffer::new().format(count).as_bytes());

@@ -5,7 +5,7 @@ mod byte_room;
 mod growing;
 mod reserved;
 
-pub use byte_room::{ByteRoom, put_count};
+pub use byte_room::{FixedBuffer, put_count};
 pub use growing::{put_named, put_number, put_signed, put_text, put_two_digits, put_word};
 pub use reserved::{put_count_reserved, put_reserved};
 pub use std::alloc::AllocError as OutOfMemory;

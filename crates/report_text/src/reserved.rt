@@ -1,6 +1,6 @@
 // Reports in room that was taken before.
 ghost use Rattle.std.specs.Prelude.{◌≡◌, ◌+◌, ◌≤◌, ◌++◌, length, vec_len, vec_capacity, decimal};
-ghost use Rattle.report_text.specs.Room.{most_count_digits};
+ghost use Rattle.report_text.specs.Room.{max_count_digits};
 
 /// Adds bytes, for which there is room, so that no memory is taken.
 pub fn put_reserved(report: &mut Vec<u8>, bytes: &[u8])
@@ -13,9 +13,9 @@ pub fn put_reserved(report: &mut Vec<u8>, bytes: &[u8])
 
 /// Adds a word and a count, for which there is room, so that no memory is taken.
 pub fn put_count_reserved(report: &mut Vec<u8>, word: &[u8], count: u64)
-    requires { vec_len report.old + length word.now + most_count_digits ≤ vec_capacity report.old }
+    requires { vec_len report.old + length word.now + max_count_digits ≤ vec_capacity report.old }
     ensures items { report.new.items ≡ report.old.items ++ word.now ++ decimal count }
-    ensures len { vec_len report.new ≤ vec_len report.old + length word.now + most_count_digits }
+    ensures len { vec_len report.new ≤ vec_len report.old + length word.now + max_count_digits }
     ensures room { vec_capacity report.old ≤ vec_capacity report.new }
 {
     put_reserved(report, word);

@@ -54,7 +54,7 @@ at_one : (b : Bool) (p : ℕ → Bool) (a n : ℕ) → p a ≡ b → FirstSays p
 at_one true p a n is later = (omega arith, is, λ k above below. absurd (omega (arith, above, below)))
 at_one false p a n is later = after_one p a n (first_of p (a + 1) n) is later
 
--- the search tells the truth
+-- the search is right
 pub first_says : (p : ℕ → Bool) (a n : ℕ) → FirstSays p a n (first_of p a n)
 first_says p a zero = λ k above below. absurd (omega (arith, above, below))
 first_says p a (suc n) = at_one (p a) p a n refl (first_says p (a + 1) n)

@@ -2,7 +2,7 @@
 use Rattle.std.proofs.Common.{◌≡◌, ℕ, ◌+◌, ◌<◌, ◌≤◌, List, Option, Some, None, Bool, true, false, refl, arith}
 use Rattle.std.specs.Prelude.{◌==◌, if◌then◌else◌}
 use Rattle.std.proofs.lemmas.Bool.Decides.{nat_tests}
-use Rattle.brr_encode.specs.Encoding.{most_blocks}
+use Rattle.brr_encode.specs.Encoding.{max_blocks}
 use Rattle.voice_unit.specs.Directory.{start_word, loop_word}
 use Rattle.sample_rip.specs.Blocks.{block_address, ends_at, loops_at}
 use Rattle.sample_rip.specs.Rip.{last_block, block_at, loop_end, block_count, end_after, rip_found}
@@ -10,9 +10,9 @@ use Rattle.sample_rip.specs.Laws.{NoneStandsAt, EndSays, FoundSays, FoundByItsBi
 use Rattle.sample_rip.specs.declared.found.RipEnd.TheVariants.{NoLoop}
 use Rattle.sample_rip.proofs.FirstPlaces.{FirstSays, first_says}
 
-last_says : (memory : List ℕ) (start : ℕ) → FirstSays (ends_at memory start) 0 most_blocks (last_block memory start)
+last_says : (memory : List ℕ) (start : ℕ) → FirstSays (ends_at memory start) 0 max_blocks (last_block memory start)
 unfolding last_block
-last_says memory start = first_says (ends_at memory start) 0 most_blocks
+last_says memory start = first_says (ends_at memory start) 0 max_blocks
 
 block_says : (start address last : ℕ) → FirstSays (λ block. block_address start block == address) 0 (last + 1) (block_at start address last)
 unfolding block_at
@@ -35,7 +35,7 @@ by_loop_bit : (looped : Bool) (memory : List ℕ) (start address last : ℕ) →
 by_loop_bit true memory start address last loops ends = by_block memory start address last (block_at start address last) ends loops (block_says start address last)
 by_loop_bit false memory start address last loops ends = (ends, loops)
 
-by_last : (memory : List ℕ) (start address : ℕ) (last : Option ℕ) → FirstSays (ends_at memory start) 0 most_blocks last
+by_last : (memory : List ℕ) (start address : ℕ) (last : Option ℕ) → FirstSays (ends_at memory start) 0 max_blocks last
     → FoundSays memory start address (record { start = start; blocks = block_count last; «end» = end_after memory start address last })
 by_last memory start address None says =
     (refl, (7279, refl, omega arith, (λ k below. says k (omega arith) (omega (arith, below))), (says 7279 (omega arith) (omega arith), refl)))

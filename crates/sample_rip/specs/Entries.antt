@@ -3,8 +3,8 @@ use Rattle.std.specs.Prelude.{ℕ, ◌+◌, ◌*◌, ◌==◌, ◌||◌, ◌&&�
 use Rattle.std.specs.List.{range_with_len, list_any}
 
 -- the entries of a directory
-abbrev pub most_entries : ℕ
-most_entries = 256
+abbrev pub max_entries : ℕ
+max_entries = 256
 
 -- the register SRCN of a voice names the entry
 abbrev pub is_source : (registers : List ℕ) → (entry : ℕ) → Bool
@@ -20,4 +20,4 @@ is_wanted registers range entry = is_source registers entry || is_in_range range
 
 -- of each of the 256 entries, whether it is ripped
 abbrev pub wanted_entries : (registers : List ℕ) → Option (ℕ × ℕ) → List Bool
-wanted_entries registers range = map (is_wanted registers range) (range_with_len 0 most_entries)
+wanted_entries registers range = map (is_wanted registers range) (range_with_len 0 max_entries)

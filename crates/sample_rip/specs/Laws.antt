@@ -1,6 +1,6 @@
 -- What is found of a sample, in the words of its blocks: where their first end bit stands, and where the loop word leads.
 use Rattle.std.specs.Prelude.{◌≡◌, ◌≢◌, ℕ, ◌+◌, ◌*◌, ◌<◌, List, true, false}
-use Rattle.brr_encode.specs.Encoding.{most_blocks}
+use Rattle.brr_encode.specs.Encoding.{max_blocks}
 use Rattle.voice_unit.specs.Directory.{start_word, loop_word}
 use Rattle.sample_rip.specs.Blocks.{block_address, ends_at, loops_at}
 use Rattle.sample_rip.specs.Rip.{rip_found}
@@ -28,12 +28,12 @@ EndSays memory start address last (Loop sample) =
     (ends_at memory start last ≡ true) × (loops_at memory start last ≡ true) × BeginsAt start address (last + 1) sample
 EndSays memory start address last Outside =
     (ends_at memory start last ≡ true) × (loops_at memory start last ≡ true) × NoneStandsAt start address (last + 1)
-EndSays memory start address last Open = (ends_at memory start last ≡ false) × (last + 1 ≡ most_blocks)
+EndSays memory start address last Open = (ends_at memory start last ≡ false) × (last + 1 ≡ max_blocks)
 
 -- what is found says of the blocks from a start on, of which at most 7,280 are looked at, and of an address to loop to
 abbrev pub FoundSays : (memory : List ℕ) → (start address : ℕ) → RipFound → Type 0
 FoundSays memory start address found =
-    (found.start ≡ start) × ((last : ℕ) × (found.blocks ≡ last + 1) × (last < most_blocks) × NoneEnds memory start last
+    (found.start ≡ start) × ((last : ℕ) × (found.blocks ≡ last + 1) × (last < max_blocks) × NoneEnds memory start last
     × EndSays memory start address last found.«end»)
 
 -- so it is with each entry of each directory

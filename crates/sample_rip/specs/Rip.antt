@@ -1,7 +1,7 @@
 -- A sample of the directory: where it starts, how many blocks it has, and how it ends (the limit of its blocks is own).
 use Rattle.std.specs.Prelude.{ℕ, ◌+◌, ◌*◌, ◌==◌, ℤ, List, Option, Some, None, if◌then◌else◌}
 use Rattle.brr_decode.specs.Kept.{samples_of}
-use Rattle.brr_encode.specs.Encoding.{most_blocks}
+use Rattle.brr_encode.specs.Encoding.{max_blocks}
 use Rattle.voice_unit.specs.Directory.{start_word, loop_word}
 use Rattle.sample_rip.specs.Blocks.{block_address, stream_of, ends_at, loops_at, first_of}
 use Rattle.sample_rip.specs.declared.found.RipFound.{RipFound}
@@ -10,7 +10,7 @@ use Rattle.sample_rip.specs.declared.found.RipEnd.TheVariants.{NoLoop, Loop, Out
 
 -- the first block with its end bit, among as many as a sample can have
 unfoldable pub last_block : (memory : List ℕ) → (start : ℕ) → Option ℕ
-last_block memory start = first_of (ends_at memory start) 0 most_blocks
+last_block memory start = first_of (ends_at memory start) 0 max_blocks
 
 -- the first block at an address, among the blocks up to a last one
 unfoldable pub block_at : (start address last : ℕ) → Option ℕ
@@ -23,7 +23,7 @@ loop_end (Some block) = Loop (16 * block)
 
 -- how many blocks a sample has, by its last block
 abbrev pub block_count : (last : Option ℕ) → ℕ
-block_count None = most_blocks
+block_count None = max_blocks
 block_count (Some last) = last + 1
 
 -- how a sample ends, by its last block

@@ -6,7 +6,7 @@ use aram_core::Aram;
 use brr_decode::{has_end, has_loop};
 
 /// The most blocks that a sample has.
-pub const MOST_BLOCKS: u32 = 7280;
+pub const MAX_BLOCKS: u32 = 7280;
 
 /// The address of a block of the sample that starts at `start`, counted from 0.
 pub fn block_address(start: u16, block: u32) -> u16

@@ -1,6 +1,6 @@
 // What a sample comes to when it is encoded again.
 ghost use Rattle.std.specs.Prelude.{◌≡◌, ◌<◌, ◌≤◌, All, length, IfOk};
-ghost use Rattle.brr_encode.specs.Encoding.{most_blocks};
+ghost use Rattle.brr_encode.specs.Encoding.{max_blocks};
 ghost use Rattle.brr_encode.specs.Report.{IsWithin};
 ghost use Rattle.sample_rip.specs.Rip.{rip_samples};
 ghost use Rattle.sample_rip.specs.Reencoded.{is_looped, errors_of, errors_of_samples, rip_report};
@@ -44,7 +44,7 @@ fn samples_of(alloc: Global, memory: &Aram, found: &RipFound) -> Result<Vec<i16>
 /// The errors of all blocks.
 fn errors_of(blocks: &[BlockReport]) -> RipReport
     requires within { All IsWithin blocks.now }
-    requires few { length blocks.now ≤ most_blocks }
+    requires few { length blocks.now ≤ max_blocks }
     ensures { result ≡ errors_of blocks.now }
 {
     let mut errors = RipReport {
@@ -65,7 +65,7 @@ fn errors_of(blocks: &[BlockReport]) -> RipReport
 #[tactic(auto, unfolding(crate::specs::Reencoded::rip_report))]
 pub fn reencode(alloc: Global, memory: &Aram, found: &RipFound) -> Result<RipReport, OutOfMemory>
     requires some { 0 < found.now.blocks }
-    requires few { found.now.blocks ≤ most_blocks }
+    requires few { found.now.blocks ≤ max_blocks }
     ensures { IfOk result (λ report. report ≡ rip_report memory.now found.now) }
 {
     let samples = samples_of(alloc, memory, found)?;

@@ -23,12 +23,12 @@ use Rattle.render_files.proofs.Waves.{moved}
 use Rattle.session_files.proofs.Playing.{frames_first}
 
 -- before the first line the header and what is to come are the whole file
-pub whole_wave : (f : ℕ → List Frame) (told now : List Reply) (left : List Frame) (count : ℕ) → left ≡ [] → now ≡ told → count ≡ length (cut_frames f (played_cuts told))
-    → header_of 2 count ++ flat_map frame_bytes (left ++ cut_frames f (played_cuts now)) ≡ stereo_wave (cut_frames f (played_cuts told))
-whole_wave f told now left count none same is =
+pub whole_wave : (f : ℕ → List Frame) (known now : List Reply) (left : List Frame) (count : ℕ) → left ≡ [] → now ≡ known → count ≡ length (cut_frames f (played_cuts known))
+    → header_of 2 count ++ flat_map frame_bytes (left ++ cut_frames f (played_cuts now)) ≡ stereo_wave (cut_frames f (played_cuts known))
+whole_wave f known now left count none same is =
     ap (λ (l : List Frame). header_of 2 count ++ flat_map frame_bytes (l ++ cut_frames f (played_cuts now))) none
     ∙ ap (λ (r : List Reply). header_of 2 count ++ flat_map frame_bytes (cut_frames f (played_cuts r))) same
-    ∙ ap (λ (n : ℕ). header_of 2 n ++ flat_map frame_bytes (cut_frames f (played_cuts told))) is
+    ∙ ap (λ (n : ℕ). header_of 2 n ++ flat_map frame_bytes (cut_frames f (played_cuts known))) is
 
 module _ {S V : Type 0} (chip : ChipMeaning S) (saving : ChipSaving S V) where
   told_kept : {old new : ChipServer S V} → KeepsTune chip saving old new → (a b : Session) (k l : List ScriptLine) → b ≡ a → l ≡ k
@@ -39,27 +39,27 @@ module _ {S V : Type 0} (chip : ChipMeaning S) (saving : ChipSaving S V) where
       ∙ ap (λ (s : Session). replies (slots_of old) (pages_at chip saving old) s l) same
       ∙ ap (replies (slots_of old) (pages_at chip saving old) a) lines
 
-  rest_kept : {old new : ChipServer S V} → KeepsTune chip saving old new → (now told : List Reply) → now ≡ told
-      → cut_frames (frames_to chip saving new) (played_cuts now) ≡ cut_frames (frames_to chip saving old) (played_cuts told)
-  rest_kept {old} {new} tune now told same =
+  rest_kept : {old new : ChipServer S V} → KeepsTune chip saving old new → (now known : List Reply) → now ≡ known
+      → cut_frames (frames_to chip saving new) (played_cuts now) ≡ cut_frames (frames_to chip saving old) (played_cuts known)
+  rest_kept {old} {new} tune now known same =
       ap (λ (h : ℕ → List Frame). cut_frames h (played_cuts now)) (frames_kept chip saving tune)
       ∙ ap (λ (r : List Reply). cut_frames (frames_to chip saving old) (played_cuts r)) same
 
   -- frames were played
-  pub played_on : {old new : FilesState S V} (played : List Frame) → KeepsTune chip saving old.run.server new.run.server → session_of new.run ≡ session_of old.run → new.lines ≡ old.lines → new.told ≡ old.told
+  pub played_on : {old new : FilesState S V} (played : List Frame) → KeepsTune chip saving old.run.server new.run.server → session_of new.run ≡ session_of old.run → new.lines ≡ old.lines → new.known ≡ old.known
       → played ++ left_to_play chip saving new.run ≡ left_to_play chip saving old.run → new.wave ≡ old.wave ++ flat_map frame_bytes played → new.run.left < old.run.left → SessionGoesOn chip saving old new
-  played_on {old} {new} played tune same lines told split wave less =
+  played_on {old} {new} played tune same lines known split wave less =
       let later : replies_to_come chip saving new ≡ replies_to_come chip saving old = told_kept tune (session_of old.run) (session_of new.run) old.lines new.lines same lines in
       record {
         wave = moved old.wave new.wave played (left_to_play chip saving old.run) (left_to_play chip saving new.run) _ _ wave split (rest_kept tune (replies_to_come chip saving new) (replies_to_come chip saving old) later);
-        report = ap (λ (l : List ℕ). l ++ report_on (replies_to_come chip saving new)) told ∙ ap (λ (r : List Reply). old.told ++ report_on r) later;
+        report = ap (λ (l : List ℕ). l ++ report_on (replies_to_come chip saving new)) known ∙ ap (λ (r : List Reply). old.known ++ report_on r) later;
         less_work = omega (arith, less, ap length lines);
       }
 
   -- a line was answered
   pub answered : {old new : FilesState S V} (line : ScriptLine) (reply : Reply) → Answers chip saving line old.run new.run reply → left_to_play chip saving old.run ≡ [] → old.lines ≡ line ∷ new.lines
-      → new.told ≡ old.told ++ reply_line reply → new.wave ≡ old.wave → SessionGoesOn chip saving old new
-  answered {old} {new} line reply answers before lines told wave =
+      → new.known ≡ old.known ++ reply_line reply → new.wave ≡ old.wave → SessionGoesOn chip saving old new
+  answered {old} {new} line reply answers before lines known wave =
       let server = old.run.server in
       let f = frames_to chip saving server in
       let rest = replies (slots_of server) (pages_at chip saving server) (session_of new.run) new.lines in
@@ -76,10 +76,10 @@ module _ {S V : Type 0} (chip : ChipMeaning S) (saving : ChipSaving S V) where
             ∙ ap (λ (l : List Frame). old.wave ++ flat_map frame_bytes (left_to_play chip saving new.run ++ l)) (sym (rest_kept answers.tune (replies_to_come chip saving new) rest later))
             ∙ ap (λ (l : List ℕ). l ++ flat_map frame_bytes (frames_left chip saving new)) (sym wave);
         report =
-            ap (λ (l : List ℕ). l ++ report_on (replies_to_come chip saving new)) told
-            ∙ ap (λ (r : List Reply). (old.told ++ reply_line reply) ++ report_on r) later
-            ∙ append_assoc old.told (reply_line reply) (report_on rest)
-            ∙ ap (λ (l : List ℕ). old.told ++ l) (sym (flat_map-cons reply_line reply rest))
-            ∙ ap (λ (r : List Reply). old.told ++ report_on r) (sym all);
+            ap (λ (l : List ℕ). l ++ report_on (replies_to_come chip saving new)) known
+            ∙ ap (λ (r : List Reply). (old.known ++ reply_line reply) ++ report_on r) later
+            ∙ append_assoc old.known (reply_line reply) (report_on rest)
+            ∙ ap (λ (l : List ℕ). old.known ++ l) (sym (flat_map-cons reply_line reply rest))
+            ∙ ap (λ (r : List Reply). old.known ++ report_on r) (sym all);
         less_work = omega (arith, answers.few, ap length lines);
       }

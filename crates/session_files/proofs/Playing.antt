@@ -3,7 +3,7 @@ use Rattle.std.proofs.Common.{◌≡◌, ◌∙◌, ap, refl, ℕ, suc, ◌+◌,
 use Rattle.std.specs.List.{slice_get}
 use Rattle.std.specs.Prelude.{not, ◌&&◌, ◌==◌, nat_le, if◌then◌else◌}
 use Rattle.std.proofs.lemmas.Option.{slice_get_within, get_or_from_slice_get}
-use Rattle.num_fix.specs.Limits.{most_frames}
+use Rattle.num_fix.specs.Limits.{max_frames}
 use Rattle.std.proofs.lemmas.Grind.{flat_map-append}
 use Rattle.cut_form.specs.declared.cut.Cut.{Cut}
 use Rattle.cut_form.specs.declared.script.Reply.{Reply}
@@ -18,7 +18,7 @@ use Rattle.cut_text.specs.Playing.{played_frames}
 use Rattle.cut_form.specs.GrowingFrames.{AreOfRun}
 use Rattle.cut_form.proofs.Slices.{length-cuts}
 
--- the cuts that replies tell: those of the first, and then of the others
+-- the cuts that replies show: those of the first, and then of the others
 cuts_first : (reply : Reply) (rest : List Reply) → played_cuts (reply ∷ rest) ≡ played_cuts (reply ∷ []) ++ played_cuts rest
 cuts_first (At at) rest = refl
 cuts_first (Played count at) rest = refl
@@ -58,7 +58,7 @@ length-session f run slots pages session (Play count ∷ lines) =
     let rest = replies slots pages one.session lines in
     let cut : Cut = record { start = (book.position + count) - count; count = count } in
     let more : (count + length (cut_frames f (played_cuts rest))) + session.frames ≡ length (cut_frames f (played_cuts rest)) + (session.frames + count) = omega arith in
-    length-one_of f slots pages lines (nat_le (book.position + count) most_frames && nat_le (session.frames + count) most_frames) one other session.frames _ _
+    length-one_of f slots pages lines (nat_le (book.position + count) max_frames && nat_le (session.frames + count) max_frames) one other session.frames _ _
     (ap (λ (n : ℕ). n + session.frames) (length-cuts f run cut (played_cuts rest)) ∙ more ∙ length-session f run slots pages one.session lines)
     (length-session f run slots pages session lines)
 length-session f run slots pages session (Mark ∷ lines) = length-session f run slots pages (after_line slots pages session Mark).session lines

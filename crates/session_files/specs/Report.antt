@@ -11,8 +11,8 @@ abbrev pub report_on : List Reply → List ℕ
 report_on replies = flat_map reply_line replies
 
 -- the most bytes of a reply, and of its line
-abbrev pub most_text_bytes : ℕ
-most_text_bytes = 79
+abbrev pub max_text_bytes : ℕ
+max_text_bytes = 79
 
-abbrev pub most_reply_bytes : ℕ
-most_reply_bytes = most_text_bytes + 1
+abbrev pub max_reply_bytes : ℕ
+max_reply_bytes = max_text_bytes + 1

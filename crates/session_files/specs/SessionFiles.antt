@@ -2,7 +2,7 @@
 use Rattle.std.specs.Prelude.{◌≡◌, ℕ, ◌+◌, ◌*◌, ◌^◌, ◌≤◌, ◌<◌, ◌==◌, ◌&&◌, Bool, List, [], ◌++◌, length}
 use Rattle.std.specs.List.{flat_map}
 use Rattle.num_fix.specs.declared.Frame.{Frame}
-use Rattle.num_fix.specs.Limits.{most_frames}
+use Rattle.num_fix.specs.Limits.{max_frames}
 use Rattle.wav_form.specs.Wave.{frame_bytes}
 use Rattle.chip_form.specs.ChipMeaning.{ChipMeaning}
 use Rattle.chip_form.specs.ChipSaving.{ChipSaving}
@@ -12,16 +12,16 @@ use Rattle.cut_form.specs.Session.{opened_session, replies, played_cuts}
 use Rattle.cut_form.specs.Slices.{cut_frames}
 use Rattle.cut_server.specs.ServerState.{slots_of}
 use Rattle.cut_server.specs.Server.{ChipServer, pages_at, frames_to}
-use Rattle.command_frame.specs.Stream.{Both}
+use Rattle.command_runner.specs.Stream.{Both}
 use Rattle.session_files.specs.SessionRun.{SessionRunState, session_of, left_to_play}
-use Rattle.session_files.specs.Report.{report_on, most_reply_bytes}
+use Rattle.session_files.specs.Report.{report_on, max_reply_bytes}
 
 pub record FilesState (S V : Type 0) : Type 0 where
   pub run : SessionRunState S V
   -- the lines that are still to be answered
   pub lines : List ScriptLine
   -- the replies so far
-  pub told : List ℕ
+  pub known : List ℕ
   -- the piece that was made last
   pub wave : List ℕ
 
@@ -34,7 +34,7 @@ replies_of_server chip saving server script =
 abbrev pub replies_to_come : {S V : Type 0} → ChipMeaning S → ChipSaving S V → FilesState S V → List Reply
 replies_to_come chip saving files = replies (slots_of files.run.server) (pages_at chip saving files.run.server) (session_of files.run) files.lines
 
--- the frames to come: those of the last line, and those that the replies to come tell
+-- the frames to come: those of the last line, and those that the replies to come show
 abbrev pub frames_left : {S V : Type 0} → ChipMeaning S → ChipSaving S V → FilesState S V → List Frame
 frames_left chip saving files =
     left_to_play chip saving files.run ++ cut_frames (frames_to chip saving files.run.server) (played_cuts (replies_to_come chip saving files))
@@ -48,20 +48,20 @@ to_come_of chip saving files = record { wave = flat_map frame_bytes (frames_left
 
 -- the report on all of it
 abbrev pub report_of : {S V : Type 0} → ChipMeaning S → ChipSaving S V → FilesState S V → List ℕ
-report_of chip saving files = files.told ++ report_on (replies_to_come chip saving files)
+report_of chip saving files = files.known ++ report_on (replies_to_come chip saving files)
 
 -- the frames of the last line and the lines that are left
 abbrev pub work_of : {S V : Type 0} → FilesState S V → ℕ
-work_of files = files.run.left + (most_frames + 1) * length files.lines
+work_of files = files.run.left + (max_frames + 1) * length files.lines
 
 -- whether all lines are answered and played
 abbrev pub is_finished : {S V : Type 0} → FilesState S V → Bool
 is_finished files = files.run.left == 0 && length files.lines == 0
 
 -- What is kept: there is room for the replies to come, and the count of samples doesn't reach its end. No contract cites it.
-pub record IsOnScript {S V : Type 0} (run : SessionRunState S V) (lines : List ScriptLine) (told : List ℕ) (room : ℕ) : Type 0 where
-  pub enough : length told + most_reply_bytes * length lines ≤ room
-  pub counted : (session_of run).book.made + most_frames * length lines < 2 ^ 64
+pub record IsOnScript {S V : Type 0} (run : SessionRunState S V) (lines : List ScriptLine) (known : List ℕ) (room : ℕ) : Type 0 where
+  pub enough : length known + max_reply_bytes * length lines ≤ room
+  pub counted : (session_of run).book.made + max_frames * length lines < 2 ^ 64
 
 -- Frames were played, or a line was answered: what is made and what is to come are together what they were. No contract that others see cites it.
 pub record SessionGoesOn {S V : Type 0} (chip : ChipMeaning S) (saving : ChipSaving S V) (old new : FilesState S V) : Type 0 where

@@ -1,7 +1,7 @@
 -- What contracts see of a session on a server.
 use Rattle.std.specs.Prelude.{◌≡◌, ℕ, ◌+◌, ◌^◌, ◌<◌, ◌≤◌, List, [], ◌∷◌}
 use Rattle.num_fix.specs.declared.Frame.{Frame}
-use Rattle.num_fix.specs.Limits.{most_frames}
+use Rattle.num_fix.specs.Limits.{max_frames}
 use Rattle.chip_form.specs.ChipMeaning.{ChipMeaning}
 use Rattle.chip_form.specs.ChipSaving.{ChipSaving}
 use Rattle.cut_form.specs.declared.script.ScriptLine.{ScriptLine}
@@ -30,7 +30,7 @@ left_to_play chip saving run = slice_of (frames_to chip saving run.server) (book
 -- The last line is played, and the count of samples is far from its end.
 pub record CanAnswer {S V : Type 0} (run : SessionRunState S V) : Type 0 where
   pub played : run.left ≡ 0
-  pub counted : (book_of run.server).made + most_frames < 2 ^ 64
+  pub counted : (book_of run.server).made + max_frames < 2 ^ 64
 
 -- A line was answered: by the session's own words; the frames that it plays are still to be played.
 pub record Answers {S V : Type 0} (chip : ChipMeaning S) (saving : ChipSaving S V) (line : ScriptLine)
@@ -38,10 +38,10 @@ pub record Answers {S V : Type 0} (chip : ChipMeaning S) (saving : ChipSaving S 
   pub outcome : after_line (slots_of old.server) (pages_at chip saving old.server) (session_of old) line ≡ record { session = session_of new; reply = reply }
   pub frames : left_to_play chip saving new ≡ cut_frames (frames_to chip saving old.server) (played_cuts (reply ∷ []))
   pub tune : KeepsTune chip saving old.server new.server
-  pub few : new.left ≤ most_frames
+  pub few : new.left ≤ max_frames
 
 -- What a session that is run keeps. No contract that others see cites it.
 pub record IsRunning {S V : Type 0} (chip : ChipMeaning S) (saving : ChipSaving S V) (server : ChipServer S V) (frames left : ℕ) : Type 0 where
   pub run : AreOfRun (frames_to chip saving server)
-  pub few : frames ≤ most_frames
-  pub within : (book_of server).position + left ≤ most_frames
+  pub few : frames ≤ max_frames
+  pub within : (book_of server).position + left ≤ max_frames

@@ -2,7 +2,7 @@
 ghost use Rattle.std.specs.Prelude.{◌≡◌, ◌+◌, ◌*◌, ◌<◌, ◌≤◌, ◌++◌, [], length, true, false, IfOk};
 ghost use Rattle.std.specs.List.{flat_map};
 ghost use Rattle.wav_form.specs.Wave.{frame_bytes, header_of, stereo_wave};
-ghost use Rattle.cut_form.specs.CutBook.{opened_book, most_played_bytes};
+ghost use Rattle.cut_form.specs.CutBook.{opened_book, max_played_bytes};
 ghost use Rattle.cut_form.specs.Session.{played_cuts};
 ghost use Rattle.cut_form.specs.Slices.{cut_frames};
 ghost use Rattle.cut_server.specs.ServerState.{book_of};
@@ -19,12 +19,12 @@ use crate::OutOfMemory;
 use crate::replies::put_line;
 use crate::session_run::SessionRun;
 use chip_form::Chip;
-use command_frame::Pieces;
+use command_runner::Pieces;
 use cut_form::PLAYED_BYTES;
 use cut_server::CutServer;
 use cut_text::ScriptLines;
 use render_files::put_frames;
-use report_text::ByteRoom;
+use report_text::FixedBuffer;
 use std::alloc::Global;
 use std::marker::Model;
 use trace_form::Frames;
@@ -39,7 +39,7 @@ pub struct SessionFiles<C: Chip> {
     script: ScriptLines,
     next: usize,
     frames: Frames,
-    wave: ByteRoom,
+    wave: FixedBuffer,
     report: Vec<u8>,
 }
 
@@ -52,7 +52,7 @@ impl<C: Chip> Model for SessionFiles<C> {
     ghost view = { λ f. record {
       run = f.run;
       lines = drop f.next f.script;
-      told = f.report.items;
+      known = f.report.items;
       wave = f.wave;
     } };
 
@@ -60,7 +60,7 @@ impl<C: Chip> Model for SessionFiles<C> {
 }
 
 /// Adds the bytes of the frames that were played.
-fn put_played(wave: &mut ByteRoom, frames: &Frames)
+fn put_played(wave: &mut FixedBuffer, frames: &Frames)
     requires { length wave.old + stereo_size * length frames.now ≤ room_size }
     ensures { wave.new ≡ wave.old ++ flat_map frame_bytes frames.now }
 {
@@ -71,7 +71,7 @@ fn put_played(wave: &mut ByteRoom, frames: &Frames)
 #[derive(Drop)]
 struct SessionRooms {
     frames: Frames,
-    wave: ByteRoom,
+    wave: FixedBuffer,
     report: Vec<u8>,
 }
 
@@ -86,7 +86,7 @@ impl SessionRooms {
     {
         Ok(SessionRooms {
             frames: Frames::new(alloc)?,
-            wave: ByteRoom::new(alloc)?,
+            wave: FixedBuffer::new(alloc)?,
             report: Vec::with_capacity(alloc, reply_bytes)?,
         })
     }
@@ -102,11 +102,11 @@ impl<C: Chip> SessionFiles<C> {
     ) -> Result<SessionFiles<C>, OutOfMemory>
         requires run { AreOfRun (frames_to C.meaning C.saving server) }
         requires opened { book_of server ≡ opened_book (pages_at C.meaning C.saving server) }
-        ensures wave { let told = replies_of_server C.meaning C.saving server script in
+        ensures wave { let known = replies_of_server C.meaning C.saving server script in
             IfOk result (λ files. header_of 2 (played_frames 0 0 script) ++ (to_come_of C.meaning C.saving files).wave
-            ≡ stereo_wave (cut_frames (frames_to C.meaning C.saving server) (played_cuts told))) }
-        ensures report { let told = replies_of_server C.meaning C.saving server script in
-            IfOk result (λ files. report_of C.meaning C.saving files ≡ report_on told) }
+            ≡ stereo_wave (cut_frames (frames_to C.meaning C.saving server) (played_cuts known))) }
+        ensures report { let known = replies_of_server C.meaning C.saving server script in
+            IfOk result (λ files. report_of C.meaning C.saving files ≡ report_on known) }
     {
         let rooms = SessionRooms::reserve(alloc, script.len() * REPLY_BYTES)?;
         let run = SessionRun::new(server);
@@ -120,7 +120,7 @@ impl<C: Chip> SessionFiles<C> {
         })
     }
 
-    /// The chip of the server that plays. It made the samples that the replies tell.
+    /// The chip of the server that plays. It made the samples that the replies show.
     pub fn chip(&self) -> &C
         ensures made { C.total result.now ≡ (book_of self.now.run.server).made }
         ensures position { C.sample result.now ≡ (book_of self.now.run.server).position }
@@ -139,7 +139,7 @@ impl<C: Chip> SessionFiles<C> {
     /// Plays the next frames of the last line.
     fn play_some(&mut self)
         requires some { 0 < self.old.run.left }
-        requires room { length self.old.wave + most_played_bytes ≤ room_size }
+        requires room { length self.old.wave + max_played_bytes ≤ room_size }
         ensures { SessionGoesOn C.meaning C.saving self.old self.new }
     {
         self.run.play_some(&mut self.frames);
@@ -162,7 +162,7 @@ impl<C: Chip> SessionFiles<C> {
     /// Plays the next frames of the last line, or answers the next line.
     fn step(&mut self)
         requires more { is_finished self.old ≡ false }
-        requires room { length self.old.wave + most_played_bytes ≤ room_size }
+        requires room { length self.old.wave + max_played_bytes ≤ room_size }
         ensures { SessionGoesOn C.meaning C.saving self.old self.new }
     {
         if self.run.left() > 0 {

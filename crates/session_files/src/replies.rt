@@ -1,16 +1,16 @@
 // Replies as text, in room that was taken before.
 ghost use Rattle.std.specs.Prelude.{◌≡◌, ◌+◌, ◌≤◌, ◌++◌, length, vec_len, vec_capacity, codes};
 ghost use Rattle.cut_form.specs.Session.{mark_text, reply_text};
-ghost use Rattle.session_files.specs.Report.{reply_line, most_text_bytes, most_reply_bytes};
+ghost use Rattle.session_files.specs.Report.{reply_line, max_text_bytes, max_reply_bytes};
 
 use cut_form::{Marked, Reply};
 use report_text::{put_count_reserved, put_reserved};
 
 /// Adds what came of a mark at a position.
 fn put_mark(report: &mut Vec<u8>, at: u32, marked: Marked)
-    requires { vec_len report.old + most_text_bytes ≤ vec_capacity report.old }
+    requires { vec_len report.old + max_text_bytes ≤ vec_capacity report.old }
     ensures items { report.new.items ≡ report.old.items ++ mark_text at marked }
-    ensures len { vec_len report.new ≤ vec_len report.old + most_text_bytes }
+    ensures len { vec_len report.new ≤ vec_len report.old + max_text_bytes }
     ensures room { vec_capacity report.old ≤ vec_capacity report.new }
 {
     match marked {
@@ -32,9 +32,9 @@ fn put_mark(report: &mut Vec<u8>, at: u32, marked: Marked)
 
 /// Adds the text of a reply.
 fn put_reply(report: &mut Vec<u8>, reply: Reply)
-    requires { vec_len report.old + most_text_bytes ≤ vec_capacity report.old }
+    requires { vec_len report.old + max_text_bytes ≤ vec_capacity report.old }
     ensures items { report.new.items ≡ report.old.items ++ reply_text reply }
-    ensures len { vec_len report.new ≤ vec_len report.old + most_text_bytes }
+    ensures len { vec_len report.new ≤ vec_len report.old + max_text_bytes }
     ensures room { vec_capacity report.old ≤ vec_capacity report.new }
 {
     match reply {
@@ -57,9 +57,9 @@ fn put_reply(report: &mut Vec<u8>, reply: Reply)
 
 /// Adds the line of a reply, for which there is room.
 pub(crate) fn put_line(report: &mut Vec<u8>, reply: Reply)
-    requires { vec_len report.old + most_reply_bytes ≤ vec_capacity report.old }
+    requires { vec_len report.old + max_reply_bytes ≤ vec_capacity report.old }
     ensures items { report.new.items ≡ report.old.items ++ reply_line reply }
-    ensures len { vec_len report.new ≤ vec_len report.old + most_reply_bytes }
+    ensures len { vec_len report.new ≤ vec_len report.old + max_reply_bytes }
     ensures room { vec_capacity report.old ≤ vec_capacity report.new }
 {
     put_reply(report, reply);

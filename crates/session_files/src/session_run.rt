@@ -1,8 +1,8 @@
 // A session on a server: each line is answered, and its frames are played piece by piece.
 ghost use Rattle.std.specs.Prelude.{◌≡◌, ◌+◌, ◌^◌, ◌≤◌, ◌<◌, ◌++◌, [], length};
-ghost use Rattle.num_fix.specs.Limits.{most_frames};
+ghost use Rattle.num_fix.specs.Limits.{max_frames};
 ghost use Rattle.cut_form.specs.declared.script.ScriptLine.TheVariants as lines;
-ghost use Rattle.cut_form.specs.CutBook.{most_played};
+ghost use Rattle.cut_form.specs.CutBook.{max_played};
 ghost use Rattle.cut_server.specs.ServerState.{book_of, slots_of};
 ghost use Rattle.cut_server.specs.Server.{frames_to, pages_at, KeepsTune};
 ghost use Rattle.cut_text.specs.Playing.{IsWithinHour};
@@ -10,7 +10,7 @@ ghost use Rattle.cut_form.specs.GrowingFrames.{AreOfRun};
 ghost use Rattle.session_files.specs.SessionRun.{SessionRunState, session_of, left_to_play, CanAnswer, Answers};
 
 use chip_form::Chip;
-use cut_form::{MOST_FRAMES, MOST_PLAYED, Reply, ScriptLine};
+use cut_form::{MAX_FRAMES, MAX_PLAYED, Reply, ScriptLine};
 use cut_server::CutServer;
 use std::marker::Model;
 use trace_form::Frames;
@@ -66,7 +66,7 @@ impl<C: Chip> SessionRun<C> {
     /// Answers a line that goes to a sample.
     fn seek(&mut self, at: u32) -> Reply
         requires ready { CanAnswer self.old }
-        requires within { at ≤ most_frames }
+        requires within { at ≤ max_frames }
         ensures { Answers C.meaning C.saving (lines.Seek at) self.old self.new result }
     {
         self.server.seek(at);
@@ -76,11 +76,11 @@ impl<C: Chip> SessionRun<C> {
     /// Answers a line that plays: its frames are still to be played then.
     fn play(&mut self, count: u32) -> Reply
         requires ready { CanAnswer self.old }
-        requires within { count ≤ most_frames }
+        requires within { count ≤ max_frames }
         ensures { Answers C.meaning C.saving (lines.Play count) self.old self.new result }
     {
         let at = self.server.at() + count;
-        if at > MOST_FRAMES || self.frames + count > MOST_FRAMES {
+        if at > MAX_FRAMES || self.frames + count > MAX_FRAMES {
             return Reply::Refused(count);
         }
         self.frames += count;
@@ -145,9 +145,9 @@ impl<C: Chip> SessionRun<C> {
         ensures session { session_of self.new ≡ session_of self.old }
         ensures tune { KeepsTune C.meaning C.saving self.old.server self.new.server }
         ensures less { self.new.left < self.old.left }
-        ensures few { length frames.new ≤ most_played }
+        ensures few { length frames.new ≤ max_played }
     {
-        let most = self.left.min(MOST_PLAYED);
+        let most = self.left.min(MAX_PLAYED);
         self.server.play(most, frames);
         self.left -= most;
     }

@@ -7,9 +7,9 @@ use Rattle.std.proofs.lemmas.List.{map-append, length-map}
 use Rattle.std.proofs.lemmas.List.Quantifiers.{position-Some}
 use Rattle.std.proofs.lemmas.Option.{slice_get-get_or}
 use Rattle.std.proofs.lemmas.Slice.Eq.{bytes_eq-Decides}
-use Rattle.snd_host.specs.Host.{HostState, OpenedInput, IfTold}
+use Rattle.snd_host.specs.Host.{HostState, OpenedInput, IfKnown}
 use Rattle.snd_host.specs.Files.{File, name_at, place_of}
-use Rattle.snd_host.specs.OpenedInputs.{most_told, read_more, Opens}
+use Rattle.snd_host.specs.OpenedInputs.{max_unchanged, read_more, Opens}
 use Rattle.snd_host.specs.Readings.{opened_input, readings_of, opened_of}
 use Rattle.snd_host.specs.declared.readings.Reading.{Reading}
 use Rattle.snd_host.specs.declared.readings.Readings.{Readings}
@@ -20,10 +20,10 @@ inside xs ys is = cc
 
 -- the readings were kept, and after them comes the next one, if there is one
 module _ (files : List File) (past taken later : Option Readings) (current took next : Option Reading) (same_past : taken ≡ past) (same : took ≡ current) where
-  opened_next : (inputs : List OpenedInput) → IfTold later (λ after. IsSomeAnd taken (λ before. after.list.items ≡ readings_of before.list.items took)) →
+  opened_next : (inputs : List OpenedInput) → IfKnown later (λ after. IsSomeAnd taken (λ before. after.list.items ≡ readings_of before.list.items took)) →
       ((readings : List Reading) → map (opened_input files) (readings_of readings next) ≡ map (opened_input files) readings ++ inputs) →
       (after : List OpenedInput) → opened_of files later next ≡ Some after → (before : List OpenedInput) × (opened_of files past current ≡ Some before) × (after ≡ before ++ inputs)
-  opened_next inputs kept more after told = by later refl told
+  opened_next inputs kept more after known = by later refl known
     where
       of_past : (last : Readings) → map (opened_input files) (readings_of last.list.items next) ≡ after → (taken : Option Readings) → taken ≡ past → IsSomeAnd taken (λ before. last.list.items ≡ readings_of before.list.items took) →
           (before : List OpenedInput) × (opened_of files past current ≡ Some before) × (after ≡ before ++ inputs)
@@ -35,11 +35,11 @@ module _ (files : List File) (past taken later : Option Readings) (current took 
       )
 
       by : (last : Option Readings) → later ≡ last → opened_of files last next ≡ Some after → (before : List OpenedInput) × (opened_of files past current ≡ Some before) × (after ≡ before ++ inputs)
-      by None was told = absurd (cc)
-      by (Some last) was told = of_past last (sym (inside _ _ told)) taken same_past (kept last was)
+      by None was known = absurd (cc)
+      by (Some last) was known = of_past last (sym (inside _ _ known)) taken same_past (kept last was)
 
-  told_next : IfTold taken (λ before. length (readings_of before.list.items took) ≤ most_told → IsSome later) → (before : List OpenedInput) → opened_of files past current ≡ Some before → length before ≤ most_told → IsSome (opened_of files later next)
-  told_next told before is few = by past refl is
+  told_next : IfKnown taken (λ before. length (readings_of before.list.items took) ≤ max_unchanged → IsSome later) → (before : List OpenedInput) → opened_of files past current ≡ Some before → length before ≤ max_unchanged → IsSome (opened_of files later next)
+  told_next known before is few = by past refl is
     where
       still : (last : Option Readings) → IsSome last → IsSome (opened_of files last next)
       still None some = absurd (search rules)
@@ -50,15 +50,15 @@ module _ (files : List File) (past taken later : Option Readings) (current took 
       by (Some first) was is =
           let many : length before ≡ length (readings_of first.list.items took) =
           ap (length {A = OpenedInput}) (inside _ _ is) ∙ length-map (readings_of first.list.items current) (opened_input files) ∙ ap (λ (o : Option Reading). length (readings_of first.list.items o)) (sym same) in
-          still later (told first (same_past ∙ was) (omega arith))
+          still later (known first (same_past ∙ was) (omega arith))
 
   pub opens_next : (inputs : List OpenedInput) (a b : HostState) → a.opened ≡ opened_of files past current → b.opened ≡ opened_of files later next →
-      IfTold later (λ after. IsSomeAnd taken (λ before. after.list.items ≡ readings_of before.list.items took)) →
-      IfTold taken (λ before. length (readings_of before.list.items took) ≤ most_told → IsSome later) →
+      IfKnown later (λ after. IsSomeAnd taken (λ before. after.list.items ≡ readings_of before.list.items took)) →
+      IfKnown taken (λ before. length (readings_of before.list.items took) ≤ max_unchanged → IsSome later) →
       ((readings : List Reading) → map (opened_input files) (readings_of readings next) ≡ map (opened_input files) readings ++ inputs) → Opens inputs a b
-  opens_next inputs a b a_tells b_tells kept told more = record {
+  opens_next inputs a b a_tells b_tells kept known more = record {
     added = λ after is. let was = opened_next inputs kept more after (sym b_tells ∙ is) in (was.0, a_tells ∙ was.1, was.2);
-    told = λ before is few. subst (λ (o : Option (List OpenedInput)). IsSome o) (sym b_tells) (told_next told before (sym a_tells ∙ is) (omega arith));
+    known = λ before is few. subst (λ (o : Option (List OpenedInput)). IsSome o) (sym b_tells) (told_next known before (sym a_tells ∙ is) (omega arith));
   }
 
 -- a reading comes next

@@ -1,4 +1,4 @@
--- A write to an output in memory, whose host tells what it was given and perhaps its rooms.
+-- A write to an output in memory, whose host shows what it was given and perhaps its rooms.
 use Rattle.std.proofs.Common.{◌≡◌, ℕ, ◌≤◌, List, [], length, Some, sym, ◌∙◌, ap}
 use Rattle.std.proofs.lemmas.Option.{same_Some}
 use Rattle.snd_host.specs.Host.{HostState, Given, ChangesOutputs, Writes, given_with, rooms_less}
@@ -9,10 +9,10 @@ wrote_here : (file : ℕ) (bytes : List ℕ) (a b : HostState) (before after : G
     a.given ≡ Some before → b.given ≡ Some after → b.ended ≡ a.ended → ChangesOutputs a b → a.steady ≡ steady_of failing calls mine → b.steady ≡ steady_of failing next left → calls ≤ next →
     after ≡ given_with before file bytes → left ≡ rooms_less mine file (length bytes) → Writes file bytes a b
 wrote_here file bytes a b before after failing calls next mine left tells_before tells_after ended others steady_before steady_after le is less = record {
-  given = λ given told. tells_after ∙ ap (λ (g : Given). Some g) (is ∙ ap (λ (g : Given). given_with g file bytes) (same_Some before given (sym tells_before ∙ told)));
+  given = λ given known. tells_after ∙ ap (λ (g : Given). Some g) (is ∙ ap (λ (g : Given). given_with g file bytes) (same_Some before given (sym tells_before ∙ known)));
   ended = ended;
   others = others;
-  rooms = λ rooms told. steady_after ∙ steady_of-change (λ l. rooms_less l file (length bytes)) failing calls next mine left le less rooms (sym steady_before ∙ told);
+  rooms = λ rooms known. steady_after ∙ steady_of-change (λ l. rooms_less l file (length bytes)) failing calls next mine left le less rooms (sym steady_before ∙ known);
 }
 
 pub wrote_by : (file number : ℕ) (bytes piece : List ℕ) (a b : HostState) (before after : Given) (failing : List ℕ) (calls next : ℕ) (mine left : List ℕ) →

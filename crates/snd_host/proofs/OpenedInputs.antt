@@ -11,28 +11,28 @@ inside xs ys is = cc
 
 pub opens_nothing : (a : HostState) → Opens [] a a
 opens_nothing a = record {
-  added = λ after told. (after, told, sym (append-nil after));
-  told = λ before told few. ap (λ (o : Option (List OpenedInput)). is_some o) told;
+  added = λ after known. (after, known, sym (append-nil after));
+  known = λ before known few. ap (λ (o : Option (List OpenedInput)). is_some o) known;
 }
 
 pub opens_same : (inputs : List OpenedInput) (a b c : HostState) → Opens inputs a b → c.opened ≡ b.opened → Opens inputs a c
 opens_same inputs a b c opens same = record {
-  added = λ after told. opens.added after (sym same ∙ told);
-  told = λ before told few. subst (λ (o : Option (List OpenedInput)). IsSome o) (sym same) (opens.told before told few);
+  added = λ after known. opens.added after (sym same ∙ known);
+  known = λ before known few. subst (λ (o : Option (List OpenedInput)). IsSome o) (sym same) (opens.known before known few);
 }
 
 pub opens_then : (first second : List OpenedInput) (a b c : HostState) → Opens first a b → Opens second b c → Opens (first ++ second) a c
 opens_then first second a b c one two = record {
-  added = λ after told.
-      let mid = two.added after told in
+  added = λ after known.
+      let mid = two.added after known in
       let before = one.added mid.0 mid.1 in
       (before.0, before.1, mid.2 ∙ ap (λ (l : List OpenedInput). l ++ second) before.2 ∙ append_assoc before.0 first second);
-  told = λ before told few.
-      let mid = some_is b.opened (one.told before told (omega (arith, length-append first second))) in
+  known = λ before known few.
+      let mid = some_is b.opened (one.known before known (omega (arith, length-append first second))) in
       let was = one.added mid.0 mid.1 in
       let many : length mid.0 ≡ length before + length first =
-      ap (length {A = OpenedInput}) was.2 ∙ length-append was.0 first ∙ ap (λ (l : List OpenedInput). length l + length first) (inside was.0 before (sym was.1 ∙ told)) in
-      two.told mid.0 mid.1 (omega (arith, length-append first second));
+      ap (length {A = OpenedInput}) was.2 ∙ length-append was.0 first ∙ ap (λ (l : List OpenedInput). length l + length first) (inside was.0 before (sym was.1 ∙ known)) in
+      two.known mid.0 mid.1 (omega (arith, length-append first second));
 }
 
 pub read_more-last : (inputs : List OpenedInput) (o : OpenedInput) (count : ℕ) → read_more (inputs ++ o ∷ []) count ≡ inputs ++ record o { read = o.read + count } ∷ []
@@ -43,20 +43,20 @@ read_more-last (p ∷ q ∷ inputs) o count = ap (λ (l : List OpenedInput). p �
 -- so many bytes more of the input that was opened last
 pub opens_read : (o : OpenedInput) (count total : ℕ) (a b c : HostState) → total ≡ o.read + count → Opens (o ∷ []) a b → ReadsMore count b c → Opens (record o { read = total } ∷ []) a c
 opens_read o count total a b c is one more = record {
-  added = λ after told. by after b.opened refl (sym more ∙ told);
-  told = λ before told few.
-      let mid = some_is b.opened (one.told before told few) in
+  added = λ after known. by after b.opened refl (sym more ∙ known);
+  known = λ before known few.
+      let mid = some_is b.opened (one.known before known few) in
       ap (λ (l : Option (List OpenedInput)). is_some l) (more ∙ ap (option_map (λ inputs. read_more inputs count)) mid.1);
 }
   where
     by : (after : List OpenedInput) (last : Option (List OpenedInput)) → b.opened ≡ last → option_map (λ inputs. read_more inputs count) last ≡ Some after →
         (before : List OpenedInput) × (a.opened ≡ Some before) × (after ≡ before ++ record o { read = total } ∷ [])
-    by after None was told = absurd (cc)
-    by after (Some mid) was told =
+    by after None was known = absurd (cc)
+    by after (Some mid) was known =
         let before = one.added mid was in (
           before.0,
           before.1,
-          sym (inside (read_more mid count) after told) ∙ ap (λ (l : List OpenedInput). read_more l count) before.2 ∙ read_more-last before.0 o count
+          sym (inside (read_more mid count) after known) ∙ ap (λ (l : List OpenedInput). read_more l count) before.2 ∙ read_more-last before.0 o count
               ∙ ap (λ (n : ℕ). before.0 ++ record o { read = n } ∷ []) (sym is),
         )
 

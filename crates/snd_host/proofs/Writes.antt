@@ -53,19 +53,19 @@ outputs_kept a = record { holds = refl; left = refl; current = refl; inputs = re
 
 pub wrote_nothing : (file : ℕ) (a : HostState) → Writes file [] a a
 wrote_nothing file a = record {
-  given = λ given told. told ∙ ap (λ (g : Given). Some g) (sym (given_with-nil given file));
+  given = λ given known. known ∙ ap (λ (g : Given). Some g) (sym (given_with-nil given file));
   ended = refl;
   others = outputs_kept a;
-  rooms = λ rooms told. told ∙ ap (λ (l : List ℕ). Some l) (sym (lowered_none rooms file));
+  rooms = λ rooms known. known ∙ ap (λ (l : List ℕ). Some l) (sym (lowered_none rooms file));
 }
 
 -- one write after another
 pub wrote_then : (file : ℕ) (xs ys : List ℕ) (a b c : HostState) → Writes file xs a b → Writes file ys b c → Writes file (xs ++ ys) a c
 wrote_then file xs ys a b c first second = record {
-  given = λ given told. second.given (given_with given file xs) (first.given given told) ∙ ap (λ (g : Given). Some g) (given_with-given_with given file xs ys);
+  given = λ given known. second.given (given_with given file xs) (first.given given known) ∙ ap (λ (g : Given). Some g) (given_with-given_with given file xs ys);
   ended = second.ended ∙ first.ended;
   others = outputs_then a b c first.others second.others;
-  rooms = λ rooms told. second.rooms (rooms_less rooms file (length xs)) (first.rooms rooms told)
+  rooms = λ rooms known. second.rooms (rooms_less rooms file (length xs)) (first.rooms rooms known)
       ∙ ap (λ (l : List ℕ). Some l) (rooms_less-rooms_less rooms file (length xs) (length ys) (length (xs ++ ys)) (length-append xs ys));
 }
 

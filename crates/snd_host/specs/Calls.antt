@@ -2,7 +2,7 @@
 use Rattle.std.specs.Prelude.{◌≡◌, ℕ, zero, suc, List, [], take, Result, Ok, Err, refl}
 use Rattle.std.specs.Coded.{Coded, code_by, coded×, coded_ℕ, coded_list}
 
--- A file is told by its number: 0 is the report, 1 the complaint. A read tells the room of its buffer and the bytes that it gave; a write, the bytes that
+-- A file is given by its number: 0 is the report, 1 the complaint. A read shows the room of its buffer and the bytes that it gave; a write, the bytes that
 -- it took, and one that failed, those that it was to take.
 pub data Call : Type 0 where
   opened : (name : List ℕ) (file : ℕ) → Call

@@ -31,7 +31,7 @@ pub record Faults : Type 0 where
   -- calls of `create` and `finish`, and every other write
   pub outputs : ℕ
 
--- A host at one moment. An implementation tells `holds`, `left`, `opened`, `given` and `steady`, or it doesn't.
+-- A host at one moment. An implementation shows `holds`, `left`, `opened`, `given` and `steady`, or it doesn't.
 pub record HostState : Type 0 where
   -- the calls that were made of it, the newest first, each with what came of it
   pub calls : List Call
@@ -51,29 +51,29 @@ pub record HostState : Type 0 where
   -- Of a steady host, how many bytes more each output takes, by its number. Those after the created ones are not yet taken.
   pub steady : Option (List ℕ)
 
--- where it is told, it has this property
-abbrev pub IfTold : {T : Type 0} → Option T → (T → Type 0) → Type 0
-IfTold {T} told P = (x : T) → told ≡ Some x → P x
+-- where it is known, it has this property
+abbrev pub IfKnown : {T : Type 0} → Option T → (T → Type 0) → Type 0
+IfKnown {T} known P = (x : T) → known ≡ Some x → P x
 
 -- the greatest value of a count, which has 64 bits
-abbrev pub greatest_count : ℕ
-greatest_count = 2 ^ 64 - 1
+abbrev pub max_count : ℕ
+max_count = 2 ^ 64 - 1
 
 -- One output more can be created where fewer than so many were: its number has 32 bits.
-abbrev pub most_outputs : ℕ
-most_outputs = 4294967000
+abbrev pub max_outputs : ℕ
+max_outputs = 4294967000
 
 -- the bytes of the longest name of an output that a steady host takes
 abbrev pub longest_output_name : ℕ
 longest_output_name = 200
 
 -- the greatest limit up to which an input is read whole
-abbrev pub greatest_limit : ℕ
-greatest_limit = 16777216
+abbrev pub max_limit : ℕ
+max_limit = 16777216
 
 -- a count with one more, which stands still at its greatest value
 abbrev pub next_count : ℕ → ℕ
-next_count before = min (before + 1) greatest_count
+next_count before = min (before + 1) max_count
 
 -- A count rose: it is greater than before, or it stands at its greatest value.
 abbrev pub Rose : ℕ → ℕ → Type 0
@@ -127,7 +127,7 @@ IsOpen ended (suc (suc place)) = slice_get ended place ≡ Some false
 
 -- A steady host stays steady, with the same rooms.
 abbrev pub KeepsRooms : HostState → HostState → Type 0
-KeepsRooms old new = IfTold old.steady (λ rooms. new.steady ≡ Some rooms)
+KeepsRooms old new = IfKnown old.steady (λ rooms. new.steady ≡ Some rooms)
 
 -- what was asked of the inputs: how many calls failed, and which were opened
 pub record Asked : Type 0 where
@@ -159,10 +159,10 @@ rooms_less rooms file count = slice_set rooms file (slice_index rooms file - cou
 
 -- The output of this number was given these bytes, and nothing else but counts has changed.
 pub record Writes (file : ℕ) (bytes : List ℕ) (old new : HostState) : Type 0 where
-  pub given : IfTold old.given (λ given. new.given ≡ Some (given_with given file bytes))
+  pub given : IfKnown old.given (λ given. new.given ≡ Some (given_with given file bytes))
   pub ended : new.ended ≡ old.ended
   pub others : ChangesOutputs old new
-  pub rooms : IfTold old.steady (λ rooms. new.steady ≡ Some (rooms_less rooms file (length bytes)))
+  pub rooms : IfKnown old.steady (λ rooms. new.steady ≡ Some (rooms_less rooms file (length bytes)))
 
 -- A list begins with this one.
 pub record IsPrefix (part whole : List ℕ) : Type 0 where
@@ -183,4 +183,4 @@ pub record WritesAll {T E : Type 0} (file : ℕ) (bytes : List ℕ) (old new : H
   -- A write that failed is the last one.
   pub last : file ≢ 1 → OnErr result (new.failed_last ≡ true)
   pub last_kept : file ≡ 1 → new.failed_last ≡ old.failed_last
-  pub steady : IfTold old.steady (λ rooms. length bytes ≤ slice_index rooms file → IsOk result)
+  pub steady : IfKnown old.steady (λ rooms. length bytes ≤ slice_index rooms file → IsOk result)

@@ -4,7 +4,7 @@ use Rattle.std.specs.List.{list_any}
 use Rattle.std.specs.Option.{option_map, option_map_or}
 use Rattle.std.proofs.Common.{sym, ap, ◌∙◌}
 use Rattle.std.proofs.lemmas.List.{length-map}
-use Rattle.snd_host.specs.Host.{HostState, IfTold, Output}
+use Rattle.snd_host.specs.Host.{HostState, IfKnown, Output}
 use Rattle.snd_host.specs.Files.{File, bytes_at, content_of}
 use Rattle.snd_host.specs.declared.memory.MemHost.{MemHost}
 use Rattle.snd_host.specs.Readings.{opened_of}
@@ -58,12 +58,12 @@ abbrev pub is_listed : MemHost → Bool
 is_listed host = list_any (λ number. number == calls_of host) (failing_of host)
 
 -- the number of a call that those after it keep
-abbrev pub greatest_number_of_call : ℕ
-greatest_number_of_call = 4294967295
+abbrev pub max_number_of_call : ℕ
+max_number_of_call = 4294967295
 
 -- One call was counted, and the same numbers are listed.
 pub record CountsCall (old new : MemHost) : Type 0 where
-  pub calls : calls_of new ≡ min (calls_of old + 1) greatest_number_of_call
+  pub calls : calls_of new ≡ min (calls_of old + 1) max_number_of_call
   pub failing : failing_of new ≡ failing_of old
 
 -- An input has this name.
@@ -99,8 +99,8 @@ opening_state files failing rooms = record {
   steady = if fails_later failing 0 then None else Some (opening_rooms rooms);
 }
 
--- as many outputs are told of as were created
-pub tells_each_lem : (host : MemHost) → IfTold (memory_state host).given (λ given. length given.created ≡ length (memory_state host).ended)
-tells_each_lem host given told =
+-- as many outputs are known of as were created
+pub tells_each_lem : (host : MemHost) → IfKnown (memory_state host).given (λ given. length given.created ≡ length (memory_state host).ended)
+tells_each_lem host given known =
     let same : map output_of host.created.items ≡ given.created = cc in
     sym (ap length same) ∙ length-map host.created.items output_of ∙ sym (length-map host.created.items (λ slot. slot.ended))

@@ -3,7 +3,7 @@ use Rattle.snd_host.specs.Calls.{Call, opened, not_opened, read, not_read, creat
 use Rattle.snd_host.specs.declared.log.Noted.{Noted}
 use Rattle.snd_host.specs.declared.log.Noted.TheVariants as noted
 
--- the call that a note tells
+-- the call that a note stands for
 abbrev pub call_of : Noted → Call
 call_of (noted.Opened name file) = opened name.now file
 call_of (noted.NotOpened name) = not_opened name.now

@@ -1,11 +1,11 @@
 -- Which inputs were opened, and how far each was read.
 use Rattle.std.specs.Prelude.{◌≡◌, ◌≢◌, ℕ, ◌+◌, ◌≤◌, min, List, [], ◌∷◌, ◌++◌, length, Some, IsSome, unwrap_or}
 use Rattle.std.specs.Option.{option_map}
-use Rattle.snd_host.specs.Host.{HostState, Files, OpenedInput, IfTold}
+use Rattle.snd_host.specs.Host.{HostState, Files, OpenedInput, IfKnown}
 
--- A host that tells which inputs were opened goes on to tell it while they are no more than so many.
-abbrev pub most_told : ℕ
-most_told = 16
+-- A host that shows which inputs were opened goes on to show it while they are no more than so many.
+abbrev pub max_unchanged : ℕ
+max_unchanged = 16
 
 -- an input as it is read whole: to its end, or to its limit and one byte
 abbrev pub whole_input : Files → (name : List ℕ) → (limit : ℕ) → OpenedInput
@@ -19,11 +19,11 @@ read_more (o ∷ p ∷ inputs) count = o ∷ read_more (p ∷ inputs) count
 
 -- Since the old state these inputs were opened, in this order.
 pub record Opens (inputs : List OpenedInput) (old new : HostState) : Type 0 where
-  pub added : IfTold new.opened (λ after. (before : List OpenedInput) × (old.opened ≡ Some before) × (after ≡ before ++ inputs))
-  -- It is still told while there are few.
-  pub told : IfTold old.opened (λ before. length before + length inputs ≤ most_told → IsSome new.opened)
+  pub added : IfKnown new.opened (λ after. (before : List OpenedInput) × (old.opened ≡ Some before) × (after ≡ before ++ inputs))
+  -- It is still known while there are few.
+  pub known : IfKnown old.opened (λ before. length before + length inputs ≤ max_unchanged → IsSome new.opened)
 
--- So many bytes more were read of the input that was opened last; what was told is still told.
+-- So many bytes more were read of the input that was opened last; what was known is still known.
 abbrev pub ReadsMore : (count : ℕ) → (old new : HostState) → Type 0
 ReadsMore count old new = new.opened ≡ option_map (λ inputs. read_more inputs count) old.opened
 

@@ -1,6 +1,6 @@
 // The two loops over a host: a whole piece is written, and a whole input is read.
 ghost use Rattle.std.specs.Prelude.{◌≡◌, ◌≢◌, ◌+◌, ◌<◌, ◌≤◌, ℕ, List, [], ◌∷◌, length, drop, Option, Some, IsSome, IsOk, IsErrOf, IsSomeAnd, IfOk, OnOk, OnErr, slice_index, vec_len};
-ghost use Rattle.snd_host.specs.Host.{HostState, IfTold, IsOpen, ChangesInputs, InputFailed, WritesAll, greatest_limit};
+ghost use Rattle.snd_host.specs.Host.{HostState, IfKnown, IsOpen, ChangesInputs, InputFailed, WritesAll, max_limit};
 ghost use Rattle.snd_host.specs.Follows.{AreWrites, Follows};
 ghost use Rattle.snd_host.specs.OpenedInputs.{whole_input, OpensInOrder};
 ghost use Rattle.snd_host.specs.Takes.{ReadsWhole};
@@ -11,7 +11,7 @@ use crate::{Failed, Host, OutFile, OutOfMemory};
 use std::alloc::Global;
 
 /// The most bytes that are read by one call.
-pub const MOST_READ_AT_ONCE: usize = 4096;
+pub const MAX_READ_AT_ONCE: usize = 4096;
 
 /// Writes all of the piece, or a prefix of it where a write fails.
 pub fn write_all<H: Host>(host: &mut H, out: OutFile, piece: &[u8]) -> Result<(), Failed>
@@ -61,20 +61,20 @@ pub fn read_whole<H: Host>(
     name: &str,
     limit: usize,
 ) -> Result<Vec<u8>, ReadRefusal>
-    requires { limit ≤ greatest_limit }
+    requires { limit ≤ max_limit }
 
-    ensures whole { IfOk result (λ bytes. IfTold (H.state host.old).holds (λ files. files name.now ≡ Some bytes.items)) }
+    ensures whole { IfOk result (λ bytes. IfKnown (H.state host.old).holds (λ files. files name.now ≡ Some bytes.items)) }
     ensures bounded { IfOk result (λ bytes. length bytes.items ≤ limit) }
     ensures too_long { IsErrOf result ReadRefusal.TooLong →
-        IfTold (H.state host.old).holds (λ files. IsSomeAnd (files name.now) (λ bytes. limit < length bytes)) }
+        IfKnown (H.state host.old).holds (λ files. IsSomeAnd (files name.now) (λ bytes. limit < length bytes)) }
 
     // It is read to its end, or to its limit and one byte, and no further.
-    ensures end { OnOk result (IfTold (H.state host.old).holds (λ files. (H.state host.new).left ≡ Some [])) }
-    ensures left { IsErrOf result ReadRefusal.TooLong → IfTold (H.state host.old).holds (λ files.
-        IfTold (files name.now) (λ bytes. (H.state host.new).left ≡ Some (drop (limit + 1) bytes))) }
+    ensures end { OnOk result (IfKnown (H.state host.old).holds (λ files. (H.state host.new).left ≡ Some [])) }
+    ensures left { IsErrOf result ReadRefusal.TooLong → IfKnown (H.state host.old).holds (λ files.
+        IfKnown (files name.now) (λ bytes. (H.state host.new).left ≡ Some (drop (limit + 1) bytes))) }
 
     // It is opened once, and that is all that is opened.
-    ensures opened { IfTold (H.state host.old).holds (λ files.
+    ensures opened { IfKnown (H.state host.old).holds (λ files.
         OpensInOrder (whole_input files name.now limit ∷ []) (IsRead result) (H.state host.old) (H.state host.new)) }
 
     // It makes no read after the one that gave the end, nor after one that failed.
@@ -89,13 +89,13 @@ pub fn read_whole<H: Host>(
 
     // A steady host fails only at a name that is not there.
     ensures steady { IsErrOf result ReadRefusal.Failed → IsSome (H.state host.old).steady →
-        IfTold (H.state host.old).holds (λ files. files name.now ≡ None) }
+        IfKnown (H.state host.old).holds (λ files. files name.now ≡ None) }
 {
     let file = host.open_in(name)?;
     let mut bytes = Vec::new(alloc);
-    let mut buffer = [0u8; MOST_READ_AT_ONCE];
+    let mut buffer = [0u8; MAX_READ_AT_ONCE];
     'reading: while bytes.len() <= limit {
-        let room = (limit + 1 - bytes.len()).min(MOST_READ_AT_ONCE);
+        let room = (limit + 1 - bytes.len()).min(MAX_READ_AT_ONCE);
         let count = host.read(file, &mut buffer[..room])?;
         if count == 0 {
             return Ok(bytes);

@@ -10,7 +10,7 @@ use crate::{
 
 /// A host in memory whose reads give at most one byte, and whose writes take at most one.
 ///
-/// It tells all that the host inside tells, and counts faults as that host does. Its calls are those that were made of it.
+/// It shows all that the host inside shows, and counts faults as that host does. Its calls are those that were made of it.
 #[derive(Drop)]
 pub struct DripHost {
     host: MemHost,
@@ -43,7 +43,7 @@ impl Host for DripHost {
     ghost use Rattle.std.specs.Prelude.{◌≢◌, ◌-◌, ◌+◌, ◌<◌, ◌∷◌, ◌++◌, false, true, length, take, drop, Some, None, IsSome, IsOk, IfOk, OnOk, OnErr, is_err, slice_get, slice_index, slice_set};
     ghost use Rattle.snd_host.specs.Calls.{open_call, read_call, create_call, write_call, finish_call};
     ghost use Rattle.snd_host.specs.OpenedInputs.{Opens, ReadsMore};
-    ghost use Rattle.snd_host.specs.Host.{IfTold, HasCause, CountsWrite, EndsByWrite, IsOpen, ChangesInputs, ChangesOutputs, KeepsRooms, Writes, most_outputs, longest_output_name};
+    ghost use Rattle.snd_host.specs.Host.{IfKnown, HasCause, CountsWrite, EndsByWrite, IsOpen, ChangesInputs, ChangesOutputs, KeepsRooms, Writes, max_outputs, longest_output_name};
     ghost use Rattle.snd_host.specs.Memory.{tells_each_lem, CountsCall};
 
     ghost state = { drip_state };
@@ -54,8 +54,8 @@ impl Host for DripHost {
         ensures current { IfOk result (λ file. (drip_state self.new).current ≡ Some file.0) }
         ensures fresh { IfOk result (λ file. (drip_state self.old).current ≢ Some file.0) }
         ensures none_current { OnErr result ((drip_state self.new).current ≡ None) }
-        ensures there { OnOk result (IfTold (drip_state self.old).holds (λ files. IsSome (files name.now))) }
-        ensures left { OnOk result (IfTold (drip_state self.old).holds (λ files. (drip_state self.new).left ≡ files name.now)) }
+        ensures there { OnOk result (IfKnown (drip_state self.old).holds (λ files. IsSome (files name.now))) }
+        ensures left { OnOk result (IfKnown (drip_state self.old).holds (λ files. (drip_state self.new).left ≡ files name.now)) }
         ensures unread { OnErr result ((drip_state self.new).left ≡ (drip_state self.old).left) }
         ensures opened { OnOk result (Opens (record { name = name.now; read = 0 } ∷ []) (drip_state self.old) (drip_state self.new)) }
         ensures not_opened { OnErr result ((drip_state self.new).opened ≡ (drip_state self.old).opened) }
@@ -64,7 +64,7 @@ impl Host for DripHost {
         ensures last { (drip_state self.new).failed_last ≡ is_err result }
         ensures made { (drip_state self.new).calls ≡ open_call (λ file. file.0) name.now result ∷ (drip_state self.old).calls }
         ensures steady { IsSome (drip_state self.old).steady →
-            IfTold (drip_state self.old).holds (λ files. IsSome (files name.now) → IsOk result) }
+            IfKnown (drip_state self.old).holds (λ files. IsSome (files name.now) → IsOk result) }
         ensures counted { CountsCall (inside self.old) (inside self.new) }
     {
         let outcome = self.host.open_in(name);
@@ -77,11 +77,11 @@ impl Host for DripHost {
         ensures within { IfOk result (λ count. count ≤ length buf.old) }
         ensures after { IfOk result (λ count. drop count buf.new ≡ drop count buf.old) }
         ensures front { IfOk result (λ count.
-            IfTold (drip_state self.old).left (λ rest. take count buf.new ≡ take count rest)) }
+            IfKnown (drip_state self.old).left (λ rest. take count buf.new ≡ take count rest)) }
         ensures left { IfOk result (λ count.
-            IfTold (drip_state self.old).left (λ rest. (drip_state self.new).left ≡ Some (drop count rest))) }
-        ensures available { IfOk result (λ count. IfTold (drip_state self.old).left (λ rest. count ≤ length rest)) }
-        ensures end { result ≡ Ok 0 → 0 < length buf.old → IfTold (drip_state self.old).left (λ rest. rest ≡ []) }
+            IfKnown (drip_state self.old).left (λ rest. (drip_state self.new).left ≡ Some (drop count rest))) }
+        ensures available { IfOk result (λ count. IfKnown (drip_state self.old).left (λ rest. count ≤ length rest)) }
+        ensures end { result ≡ Ok 0 → 0 < length buf.old → IfKnown (drip_state self.old).left (λ rest. rest ≡ []) }
         ensures unread { OnErr result ((drip_state self.new).left ≡ (drip_state self.old).left) }
         ensures counted_bytes { IfOk result (λ count. ReadsMore count (drip_state self.old) (drip_state self.new)) }
         ensures no_bytes { OnErr result ((drip_state self.new).opened ≡ (drip_state self.old).opened) }
@@ -102,10 +102,10 @@ impl Host for DripHost {
     }
 
     fn create(&mut self, name: &str) -> Result<OutFile, Failed>
-        requires { length (drip_state self.old).ended < most_outputs }
+        requires { length (drip_state self.old).ended < max_outputs }
         ensures number { IfOk result (λ file. file.0 ≡ length (drip_state self.old).ended + 2) }
         ensures ended { OnOk result ((drip_state self.new).ended ≡ (drip_state self.old).ended ++ false ∷ []) }
-        ensures created { OnOk result (IfTold (drip_state self.old).given (λ given. (drip_state self.new).given ≡
+        ensures created { OnOk result (IfKnown (drip_state self.old).given (λ given. (drip_state self.new).given ≡
             Some (record given { created = given.created ++ record { name = name.now; bytes = [] } ∷ [] }))) }
         ensures not_ended { OnErr result ((drip_state self.new).ended ≡ (drip_state self.old).ended) }
         ensures not_created { OnErr result ((drip_state self.new).given ≡ (drip_state self.old).given) }
@@ -114,7 +114,7 @@ impl Host for DripHost {
         ensures cause { HasCause (drip_state self.old).faults.outputs (drip_state self.new).faults.outputs result }
         ensures last { (drip_state self.new).failed_last ≡ is_err result }
         ensures made { (drip_state self.new).calls ≡ create_call (λ file. file.0) name.now result ∷ (drip_state self.old).calls }
-        ensures steady { IfTold (drip_state self.old).steady (λ rooms.
+        ensures steady { IfKnown (drip_state self.old).steady (λ rooms.
             length (drip_state self.old).ended + 2 < length rooms → length name.now ≤ longest_output_name → IsOk result) }
         ensures rooms { KeepsRooms (drip_state self.old) (drip_state self.new) }
         ensures counted { CountsCall (inside self.old) (inside self.new) }
@@ -133,7 +133,7 @@ impl Host for DripHost {
         ensures cause { CountsWrite file.0 (drip_state self.old).faults (drip_state self.new).faults result }
         ensures last { EndsByWrite file.0 (drip_state self.old) (drip_state self.new) result }
         ensures made { (drip_state self.new).calls ≡ write_call file.0 piece.now result ∷ (drip_state self.old).calls }
-        ensures steady { IfTold (drip_state self.old).steady (λ rooms. length piece.now ≤ slice_index rooms file.0 → IsOk result) }
+        ensures steady { IfKnown (drip_state self.old).steady (λ rooms. length piece.now ≤ slice_index rooms file.0 → IsOk result) }
         ensures at_most_one { IfOk result (λ count. count ≤ 1) }
         ensures counted { CountsCall (inside self.old) (inside self.new) }
     {

@@ -2,7 +2,7 @@
 ghost use Rattle.std.specs.Prelude.{◌≡◌, ◌≢◌, ◌+◌, ◌-◌, ◌<◌, ◌≤◌, ℕ, List, [], ◌∷◌, ◌++◌, length, take, drop, true, false, Option, Some, IsSome, IsOk, IfOk, OnOk, OnErr, is_err, slice_get, slice_index, slice_set};
 ghost use Rattle.snd_host.specs.Calls.{open_call, read_call, create_call, write_call, finish_call};
 ghost use Rattle.snd_host.specs.OpenedInputs.{Opens, ReadsMore};
-ghost use Rattle.snd_host.specs.Host.{HostState, Given, IfTold, HasCause, CountsWrite, EndsByWrite, IsOpen, ChangesInputs, ChangesOutputs, KeepsRooms, Writes, most_outputs, longest_output_name};
+ghost use Rattle.snd_host.specs.Host.{HostState, Given, IfKnown, HasCause, CountsWrite, EndsByWrite, IsOpen, ChangesInputs, ChangesOutputs, KeepsRooms, Writes, max_outputs, longest_output_name};
 
 /// A call of the host that failed.
 #[derive(Clone, Copy, Debug, PartialEq, Eq)]
@@ -21,9 +21,9 @@ pub const LONGEST_OUTPUT_NAME: usize = 200;
 
 /// Where a program reads its inputs and writes its outputs.
 ///
-/// A call that answers `Failed` is counted once, among those of its kind, and no other is; and a host tells whether its last
-/// call failed, of all but the writes to the complaint. A failed call changes, of what is told, these two alone, but that no
-/// input is current after a failed `open_in`; what a failed `read` leaves in the buffer is not told.
+/// A call that answers `Failed` is counted once, among those of its kind, and no other is; and a host returns whether its last
+/// call failed, of all but the writes to the complaint. A failed call changes, of what is known, these two alone, but that no
+/// input is current after a failed `open_in`; what a failed `read` leaves in the buffer is not known.
 ///
 /// Each call is noted once, with what came of it, and those that were noted before it stay.
 pub trait Host {
@@ -36,8 +36,8 @@ pub trait Host {
         ensures current { IfOk result (λ file. (state self.new).current ≡ Some file.0) }
         ensures fresh { IfOk result (λ file. (state self.old).current ≢ Some file.0) }
         ensures none_current { OnErr result ((state self.new).current ≡ None) }
-        ensures there { OnOk result (IfTold (state self.old).holds (λ files. IsSome (files name.now))) }
-        ensures left { OnOk result (IfTold (state self.old).holds (λ files. (state self.new).left ≡ files name.now)) }
+        ensures there { OnOk result (IfKnown (state self.old).holds (λ files. IsSome (files name.now))) }
+        ensures left { OnOk result (IfKnown (state self.old).holds (λ files. (state self.new).left ≡ files name.now)) }
         ensures unread { OnErr result ((state self.new).left ≡ (state self.old).left) }
         ensures opened { OnOk result (Opens (record { name = name.now; read = 0 } ∷ []) (state self.old) (state self.new)) }
         ensures not_opened { OnErr result ((state self.new).opened ≡ (state self.old).opened) }
@@ -47,7 +47,7 @@ pub trait Host {
         ensures made { (state self.new).calls ≡ open_call (λ file. file.0) name.now result ∷ (state self.old).calls }
         // A steady host fails only at a name that is not there.
         ensures steady { IsSome (state self.old).steady →
-            IfTold (state self.old).holds (λ files. IsSome (files name.now) → IsOk result) };
+            IfKnown (state self.old).holds (λ files. IsSome (files name.now) → IsOk result) };
 
     /// Puts the next bytes of the current input into the front of the buffer. None come only at its end, or into an empty buffer.
     fn read(&mut self, file: InFile, buf: &mut [u8]) -> Result<usize, Failed>
@@ -55,11 +55,11 @@ pub trait Host {
         ensures within { IfOk result (λ count. count ≤ length buf.old) }
         ensures after { IfOk result (λ count. drop count buf.new ≡ drop count buf.old) }
         ensures front { IfOk result (λ count.
-            IfTold (state self.old).left (λ rest. take count buf.new ≡ take count rest)) }
+            IfKnown (state self.old).left (λ rest. take count buf.new ≡ take count rest)) }
         ensures left { IfOk result (λ count.
-            IfTold (state self.old).left (λ rest. (state self.new).left ≡ Some (drop count rest))) }
-        ensures available { IfOk result (λ count. IfTold (state self.old).left (λ rest. count ≤ length rest)) }
-        ensures end { result ≡ Ok 0 → 0 < length buf.old → IfTold (state self.old).left (λ rest. rest ≡ []) }
+            IfKnown (state self.old).left (λ rest. (state self.new).left ≡ Some (drop count rest))) }
+        ensures available { IfOk result (λ count. IfKnown (state self.old).left (λ rest. count ≤ length rest)) }
+        ensures end { result ≡ Ok 0 → 0 < length buf.old → IfKnown (state self.old).left (λ rest. rest ≡ []) }
         ensures unread { OnErr result ((state self.new).left ≡ (state self.old).left) }
         ensures counted_bytes { IfOk result (λ count. ReadsMore count (state self.old) (state self.new)) }
         ensures no_bytes { OnErr result ((state self.new).opened ≡ (state self.old).opened) }
@@ -72,10 +72,10 @@ pub trait Host {
 
     /// Empties or makes the named file, and adds an output of this name, without bytes and not ended.
     fn create(&mut self, name: &str) -> Result<OutFile, Failed>
-        requires { length (state self.old).ended < most_outputs }
+        requires { length (state self.old).ended < max_outputs }
         ensures number { IfOk result (λ file. file.0 ≡ length (state self.old).ended + 2) }
         ensures ended { OnOk result ((state self.new).ended ≡ (state self.old).ended ++ false ∷ []) }
-        ensures created { OnOk result (IfTold (state self.old).given (λ given. (state self.new).given ≡
+        ensures created { OnOk result (IfKnown (state self.old).given (λ given. (state self.new).given ≡
             Some (record given { created = given.created ++ record { name = name.now; bytes = [] } ∷ [] }))) }
         ensures not_ended { OnErr result ((state self.new).ended ≡ (state self.old).ended) }
         ensures not_created { OnErr result ((state self.new).given ≡ (state self.old).given) }
@@ -85,7 +85,7 @@ pub trait Host {
         ensures last { (state self.new).failed_last ≡ is_err result }
         ensures made { (state self.new).calls ≡ create_call (λ file. file.0) name.now result ∷ (state self.old).calls }
         // A steady host fails only past its rooms or at a name that is longer than the longest.
-        ensures steady { IfTold (state self.old).steady (λ rooms.
+        ensures steady { IfKnown (state self.old).steady (λ rooms.
             length (state self.old).ended + 2 < length rooms → length name.now ≤ longest_output_name → IsOk result) }
         ensures rooms { KeepsRooms (state self.old) (state self.new) };
 
@@ -100,7 +100,7 @@ pub trait Host {
         ensures last { EndsByWrite file.0 (state self.old) (state self.new) result }
         ensures made { (state self.new).calls ≡ write_call file.0 piece.now result ∷ (state self.old).calls }
         // A steady host fails only at a piece that is longer than the room.
-        ensures steady { IfTold (state self.old).steady (λ rooms. length piece.now ≤ slice_index rooms file.0 → IsOk result) };
+        ensures steady { IfKnown (state self.old).steady (λ rooms. length piece.now ≤ slice_index rooms file.0 → IsOk result) };
 
     /// Ends a created output.
     fn finish(&mut self, file: OutFile) -> Result<(), Failed>
@@ -117,6 +117,6 @@ pub trait Host {
         ensures steady { IsSome (state self.old).steady → IsOk result }
         ensures rooms { KeepsRooms (state self.old) (state self.new) };
 
-    /// Where it is told what the outputs were given, it is told of each created one.
-    ghost tells_each: { (host : Self) → IfTold (state host).given (λ given. length given.created ≡ length (state host).ended) };
+    /// Where it is known what the outputs were given, it is known of each created one.
+    ghost tells_each: { (host : Self) → IfKnown (state host).given (λ given. length given.created ≡ length (state host).ended) };
 }

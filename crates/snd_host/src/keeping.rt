@@ -1,16 +1,16 @@
 // Keeping the readings of a host in memory.
 ghost use Rattle.std.specs.Prelude.{◌≡◌, ◌≤◌, length, IsSome, IsSomeAnd};
-ghost use Rattle.snd_host.specs.Host.{IfTold};
-ghost use Rattle.snd_host.specs.OpenedInputs.{most_told};
+ghost use Rattle.snd_host.specs.Host.{IfKnown};
+ghost use Rattle.snd_host.specs.OpenedInputs.{max_unchanged};
 ghost use Rattle.snd_host.specs.Readings.{readings_of};
 
 use crate::readings::{Reading, Readings};
 
 /// The readings with the last one, if there is one; nothing where there is no memory to keep them all.
 pub(crate) fn with_reading(past: Option<Readings>, last: Option<Reading>) -> Option<Readings>
-    ensures kept { IfTold result (λ after. IsSomeAnd past (λ before. after.list.items ≡ readings_of before.list.items last)) }
+    ensures kept { IfKnown result (λ after. IsSomeAnd past (λ before. after.list.items ≡ readings_of before.list.items last)) }
     // While they are few they are kept.
-    ensures told { IfTold past (λ before. length (readings_of before.list.items last) ≤ most_told → IsSome result) }
+    ensures known { IfKnown past (λ before. length (readings_of before.list.items last) ≤ max_unchanged → IsSome result) }
 {
     let Readings { mut list } = past?;
     if let Some(reading) = last {

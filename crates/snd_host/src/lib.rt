@@ -11,7 +11,7 @@ mod memory;
 mod noting;
 mod readings;
 
-pub use calls::{MOST_READ_AT_ONCE, ReadRefusal, read_whole, write_all};
+pub use calls::{MAX_READ_AT_ONCE, ReadRefusal, read_whole, write_all};
 pub use drip::DripHost;
 pub use host::{Failed, Host, InFile, OutFile};
 pub use log::{Log, Noted};

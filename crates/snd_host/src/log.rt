@@ -7,7 +7,7 @@ use std::marker::Model;
 
 /// A call and what came of it, as it is noted.
 ///
-/// A file is told by its number. A read tells the room of its buffer and the bytes that it gave; a write, the bytes that it
+/// A file is given by its number. A read shows the room of its buffer and the bytes that it gave; a write, the bytes that it
 /// took, and one that failed, those that it was to take.
 #[derive(Clone, Copy)]
 pub enum Noted<'a> {

@@ -264,7 +264,7 @@ impl Host for MemHost {
     ghost use Rattle.std.specs.Prelude.{◌≢◌, ◌-◌, ◌<◌, ◌∷◌, ◌++◌, ◌||◌, not, true, false, nat_lt, length, take, drop, Option, Some, None, IsSome, is_err, IsOk, IfOk, OnOk, OnErr, slice_get, slice_index, slice_set};
     ghost use Rattle.snd_host.specs.Calls.{open_call, read_call, create_call, write_call, finish_call};
     ghost use Rattle.snd_host.specs.OpenedInputs.{Opens, ReadsMore};
-    ghost use Rattle.snd_host.specs.Host.{IfTold, HasCause, CountsWrite, EndsByWrite, IsOpen, ChangesInputs, ChangesOutputs, KeepsRooms, Writes, rooms_less, most_outputs};
+    ghost use Rattle.snd_host.specs.Host.{IfKnown, HasCause, CountsWrite, EndsByWrite, IsOpen, ChangesInputs, ChangesOutputs, KeepsRooms, Writes, rooms_less, max_outputs};
     ghost use Rattle.snd_host.specs.Memory.{memory_state, tells_each_lem, rooms_of, is_listed, CountsCall, has_input, is_full};
 
     ghost state = { memory_state };
@@ -275,9 +275,9 @@ impl Host for MemHost {
         ensures current { IfOk result (λ file. (memory_state self.new).current ≡ Some file.0) }
         ensures fresh { IfOk result (λ file. (memory_state self.old).current ≢ Some file.0) }
         ensures none_current { OnErr result ((memory_state self.new).current ≡ None) }
-        ensures there { OnOk result (IfTold (memory_state self.old).holds (λ files. IsSome (files name.now))) }
+        ensures there { OnOk result (IfKnown (memory_state self.old).holds (λ files. IsSome (files name.now))) }
         ensures left { OnOk result (
-            IfTold (memory_state self.old).holds (λ files. (memory_state self.new).left ≡ files name.now)) }
+            IfKnown (memory_state self.old).holds (λ files. (memory_state self.new).left ≡ files name.now)) }
         ensures unread { OnErr result ((memory_state self.new).left ≡ (memory_state self.old).left) }
         ensures opened { OnOk result (Opens (record { name = name.now; read = 0 } ∷ []) (memory_state self.old) (memory_state self.new)) }
         ensures not_opened { OnErr result ((memory_state self.new).opened ≡ (memory_state self.old).opened) }
@@ -286,7 +286,7 @@ impl Host for MemHost {
         ensures last { (memory_state self.new).failed_last ≡ is_err result }
         ensures made { (memory_state self.new).calls ≡ open_call (λ file. file.0) name.now result ∷ (memory_state self.old).calls }
         ensures steady { IsSome (memory_state self.old).steady →
-            IfTold (memory_state self.old).holds (λ files. IsSome (files name.now) → IsOk result) }
+            IfKnown (memory_state self.old).holds (λ files. IsSome (files name.now) → IsOk result) }
         // It fails exactly where its number is listed or no input has the name.
         ensures fails { is_err result ≡ (is_listed self.old || not (has_input self.old name.now)) }
         ensures counted { CountsCall self.old self.new }
@@ -321,11 +321,11 @@ impl Host for MemHost {
         ensures within { IfOk result (λ count. count ≤ length buf.old) }
         ensures after { IfOk result (λ count. drop count buf.new ≡ drop count buf.old) }
         ensures front { IfOk result (λ count.
-            IfTold (memory_state self.old).left (λ rest. take count buf.new ≡ take count rest)) }
+            IfKnown (memory_state self.old).left (λ rest. take count buf.new ≡ take count rest)) }
         ensures left { IfOk result (λ count.
-            IfTold (memory_state self.old).left (λ rest. (memory_state self.new).left ≡ Some (drop count rest))) }
-        ensures available { IfOk result (λ count. IfTold (memory_state self.old).left (λ rest. count ≤ length rest)) }
-        ensures end { result ≡ Ok 0 → 0 < length buf.old → IfTold (memory_state self.old).left (λ rest. rest ≡ []) }
+            IfKnown (memory_state self.old).left (λ rest. (memory_state self.new).left ≡ Some (drop count rest))) }
+        ensures available { IfOk result (λ count. IfKnown (memory_state self.old).left (λ rest. count ≤ length rest)) }
+        ensures end { result ≡ Ok 0 → 0 < length buf.old → IfKnown (memory_state self.old).left (λ rest. rest ≡ []) }
         ensures unread { OnErr result ((memory_state self.new).left ≡ (memory_state self.old).left) }
         ensures counted_bytes { IfOk result (λ count. ReadsMore count (memory_state self.old) (memory_state self.new)) }
         ensures no_bytes { OnErr result ((memory_state self.new).opened ≡ (memory_state self.old).opened) }
@@ -363,10 +363,10 @@ impl Host for MemHost {
     }
 
     fn create(&mut self, name: &str) -> Result<OutFile, Failed>
-        requires { length (memory_state self.old).ended < most_outputs }
+        requires { length (memory_state self.old).ended < max_outputs }
         ensures number { IfOk result (λ file. file.0 ≡ length (memory_state self.old).ended + 2) }
         ensures ended { OnOk result ((memory_state self.new).ended ≡ (memory_state self.old).ended ++ false ∷ []) }
-        ensures created { OnOk result (IfTold (memory_state self.old).given (λ given.
+        ensures created { OnOk result (IfKnown (memory_state self.old).given (λ given.
             (memory_state self.new).given ≡ Some (record given {
               created = given.created ++ record { name = name.now; bytes = [] } ∷ [];
             }))) }
@@ -377,7 +377,7 @@ impl Host for MemHost {
         ensures cause { HasCause (memory_state self.old).faults.outputs (memory_state self.new).faults.outputs result }
         ensures last { (memory_state self.new).failed_last ≡ is_err result }
         ensures made { (memory_state self.new).calls ≡ create_call (λ file. file.0) name.now result ∷ (memory_state self.old).calls }
-        ensures steady { IfTold (memory_state self.old).steady (λ rooms.
+        ensures steady { IfKnown (memory_state self.old).steady (λ rooms.
             length (memory_state self.old).ended + 2 < length rooms → length name.now ≤ longest_output_name → IsOk result) }
         ensures rooms { KeepsRooms (memory_state self.old) (memory_state self.new) }
         // It fails exactly where its number is listed, no room is left or the name is too long.
@@ -410,7 +410,7 @@ impl Host for MemHost {
         ensures cause { CountsWrite file.0 (memory_state self.old).faults (memory_state self.new).faults result }
         ensures last { EndsByWrite file.0 (memory_state self.old) (memory_state self.new) result }
         ensures made { (memory_state self.new).calls ≡ write_call file.0 piece.now result ∷ (memory_state self.old).calls }
-        ensures steady { IfTold (memory_state self.old).steady (λ rooms.
+        ensures steady { IfKnown (memory_state self.old).steady (λ rooms.
             length piece.now ≤ slice_index rooms file.0 → IsOk result) }
         // It fails exactly where its number is listed or the piece is longer than the room.
         ensures fails { is_err result ≡

@@ -1,12 +1,12 @@
 // The readings of a host in memory.
 ghost use Rattle.std.specs.Prelude.{◌≡◌, ◌≤◌, [], vec_capacity, IfOk};
-ghost use Rattle.snd_host.specs.OpenedInputs.{most_told};
+ghost use Rattle.snd_host.specs.OpenedInputs.{max_unchanged};
 
 use crate::OutOfMemory;
 use std::alloc::Global;
 
-/// How many readings a host is sure to tell.
-pub(crate) const MOST_TOLD: usize = 16;
+/// How many readings a host is sure to show.
+pub(crate) const MAX_UNCHANGED: usize = 16;
 
 /// A file that was opened, by its place, and how far it was read.
 #[derive(Clone, Copy)]
@@ -15,11 +15,11 @@ pub(crate) struct Reading {
     pub(crate) at: usize,
 }
 
-/// The readings before the last one, in a list that has room for as many as a host is sure to tell.
+/// The readings before the last one, in a list that has room for as many as a host is sure to show.
 #[derive(Drop)]
 pub(crate) struct Readings {
     pub(crate) list: Vec<Reading>,
-    ghost reserved: { most_told ≤ vec_capacity list },
+    ghost reserved: { max_unchanged ≤ vec_capacity list },
 }
 
 impl Readings {
@@ -27,7 +27,7 @@ impl Readings {
     pub(crate) fn reserve(alloc: Global) -> Result<Readings, OutOfMemory>
         ensures { IfOk result (λ readings. readings.list.items ≡ []) }
     {
-        let list = Vec::with_capacity(alloc, MOST_TOLD)?;
+        let list = Vec::with_capacity(alloc, MAX_UNCHANGED)?;
         Ok(Readings { list })
     }
 }

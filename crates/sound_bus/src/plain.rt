@@ -2,7 +2,7 @@
 ghost use Rattle.std.specs.Prelude.{◌≡◌, ◌+◌, ◌*◌, ◌/◌, ◌<◌, ◌≤◌, true, length, IfOk};
 ghost use Rattle.chip_form.specs.Samples.{AddsSample};
 ghost use Rattle.trace_form.specs.Rooms.{frame_room, record_room};
-ghost use Rattle.chip_form.specs.Limits.{most_samples_of_chip};
+ghost use Rattle.chip_form.specs.Limits.{max_samples_of_chip};
 ghost use Rattle.lock_step.specs.Machine.{opened_machine};
 ghost use Rattle.lock_step.specs.LockStep.{bus_answer, after_bus_read, after_bus_write, after_bus_pass, lock_step};
 ghost use Rattle.lock_step.specs.LockStepEmits.{drained_machine, lock_step_emits, lock_step_counts};
@@ -14,7 +14,7 @@ use chip_form::Chip;
 use lock_step::{Counts, DrainedBus, writes_port, writes_register};
 use ports_timers::Io;
 use spc_form::OpenState;
-use spc700_exec::{Bus, CYCLES_PER_SAMPLE, Cpu, MOST_CALLS_BEFORE_STEP, step};
+use spc700_exec::{Bus, CYCLES_PER_SAMPLE, Cpu, MAX_CALLS_BEFORE_STEP, step};
 use std::alloc::Global;
 use std::marker::Model;
 use trace_form::{Frames, Record, Records};
@@ -34,9 +34,9 @@ pub struct PlainBus<C: Chip> {
 
 impl<C: Chip> Model for PlainBus<C> {
     ghost use Rattle.std.specs.Prelude.{◌≡◌, ◌+◌, ◌*◌, ◌/◌, ◌<◌, ◌≤◌, length};
-    ghost use Rattle.spc700_exec.specs.Bus.{most_calls};
+    ghost use Rattle.spc700_exec.specs.Bus.{max_calls};
     ghost use Rattle.spc700_exec.specs.declared.bus.TheConstants.{CYCLES_PER_SAMPLE};
-    ghost use Rattle.chip_form.specs.Limits.{most_samples_of_chip};
+    ghost use Rattle.chip_form.specs.Limits.{max_samples_of_chip};
     ghost use Rattle.lock_step.specs.Machine.{Machine};
 
     ghost Value = { Machine C.State };
@@ -56,8 +56,8 @@ impl<C: Chip> Model for PlainBus<C> {
     ghost invariant = { λ b. (C.sample b.chip ≡ b.clock / CYCLES_PER_SAMPLE)
         × (length b.frames ≤ b.calls)
         × (length b.records ≤ 9 * b.calls)
-        × (b.clock < CYCLES_PER_SAMPLE * (most_samples_of_chip + 1))
-        × (b.calls ≤ most_calls) };
+        × (b.clock < CYCLES_PER_SAMPLE * (max_samples_of_chip + 1))
+        × (b.calls ≤ max_calls) };
 }
 
 /// Makes the next sample.
@@ -69,7 +69,7 @@ fn make_sample<C: Chip>(
     records: &mut Records,
 )
     requires is_valid { C.meaning.is_valid (C.state chip.old) ≡ true }
-    requires number { C.sample chip.old < most_samples_of_chip }
+    requires number { C.sample chip.old < max_samples_of_chip }
     requires frame_room { length frames.old < frame_room }
     requires record_room { length records.old + 8 ≤ record_room }
     ensures made { let made = C.meaning.one_sample (C.sample chip.old) (C.state chip.old) memory.old in
@@ -192,16 +192,16 @@ impl<C: Chip> DrainedBus for PlainBus<C> {
     }
 
     fn has_room_for_step(&self) -> bool {
-        self.calls <= MOST_CALLS_BEFORE_STEP
+        self.calls <= MAX_CALLS_BEFORE_STEP
     }
 
     /// Takes one step.
-    fn take_steps(&mut self, cpu: &mut Cpu, _samples: u32, fillings: u8) -> u8 {
+    fn take_steps(&mut self, cpu: &mut Cpu, _samples: u32, drain_budget: u8) -> u8 {
         step(cpu, self);
-        fillings
+        drain_budget
     }
 
-    /// Makes no round at once.
+    /// Makes no iteration at once.
     fn wait(&mut self, _cpu: &Cpu, _samples: u32) {}
 
     /// Changes nothing, as no sample is pending.

@@ -15,7 +15,7 @@ use Rattle.spc700_asm.specs.Refusals.{refusal_at}
 use Rattle.spc700_asm.specs.Names.{Holds, IsFault, IsRefusal}
 use Rattle.spc700_asm.proofs.LabelsAppend.{end_of_append, labels_of_append}
 
--- the lines before, and what they told
+-- the lines before, and what they reported
 pub record Surveyed (origin : ℕ) (all : List (Option Statement)) (at number : ℕ) (names : Names) (left : List (Option Statement)) : Type 0 where
   pub before : List (Option Statement)
   pub whole : before ++ left ≡ all

@@ -2,7 +2,7 @@
 use Rattle.std.specs.Prelude.{◌≡◌, ℕ, ◌+◌, ◌*◌, ◌&&◌, ◌||◌, not, Bool, List, [], ◌∷◌, ◌++◌, map, Option, Some, None, unwrap_or, option_and_then, Result, Ok, Err, if◌then◌else◌}
 use Rattle.std.specs.Option.{option_map}
 use Rattle.std.specs.List.{slice_split, flat_map}
-use Rattle.num_fix.specs.Limits.{most_input}
+use Rattle.num_fix.specs.Limits.{max_input}
 use Rattle.spc700_table.specs.declared.Form.{Form}
 use Rattle.spc700_table.specs.Opcodes.{row_of, is_distance, length_of}
 use Rattle.spc700_asm.specs.declared.refusal.LineFault.{LineFault}
@@ -21,8 +21,8 @@ use Rattle.spc700_asm.specs.Labels.{Labels, size_of_line, labels_of, value_of}
 use Rattle.spc700_asm.specs.Faults.{LineRefusal, first_refusal}
 
 -- the most bytes of a source
-abbrev pub most_source : ℕ
-most_source = most_input
+abbrev pub max_source : ℕ
+max_source = max_input
 
 -- the number that is written, or that the name has, if it is defined
 abbrev pub number_written : Labels → Written → Option ℕ

@@ -46,13 +46,13 @@ abbrev pub is_name_character : ℕ → Bool
 is_name_character character = is_ascii_alphanumeric character || (character == byte "_")
 
 -- the most characters of a name
-abbrev pub most_name_characters : ℕ
-most_name_characters = 32
+abbrev pub max_name_characters : ℕ
+max_name_characters = 32
 
 -- a name: so many such characters at most and one at least, the first no digit
 unfoldable pub is_name : List ℕ → Bool
 is_name text =
-    nat_lt 0 (length text) && (nat_le (length text) most_name_characters && (not (is_ascii_digit (slice_index text 0)) && list_all is_name_character text))
+    nat_lt 0 (length text) && (nat_le (length text) max_name_characters && (not (is_ascii_digit (slice_index text 0)) && list_all is_name_character text))
 
 -- the number of hexadecimal digits, after a number of digits before them
 abbrev pub number_of_hex_digits : (number : ℕ) → List ℕ → Option ℕ

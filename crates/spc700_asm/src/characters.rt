@@ -8,7 +8,7 @@ ghost use Rattle.spc700_asm.specs.Characters.{is_blank, is_semicolon, is_name_ch
 use text_form::{decimal_value, is_number};
 
 /// The most characters of a name.
-const MOST_NAME_CHARACTERS: usize = 32;
+const MAX_NAME_CHARACTERS: usize = 32;
 
 /// A blank: a space, a tab or a carriage return.
 pub fn is_blank(character: u8) -> bool
@@ -80,7 +80,7 @@ fn are_name_characters(text: &[u8]) -> bool
 pub fn is_name(text: &[u8]) -> bool
     ensures { result ≡ is_name text.now }
 {
-    if text.is_empty() || text.len() > MOST_NAME_CHARACTERS {
+    if text.is_empty() || text.len() > MAX_NAME_CHARACTERS {
         return false;
     }
     !text[0].is_ascii_digit() && are_name_characters(text)

@@ -8,7 +8,7 @@ ghost use Rattle.spc700_asm.specs.Characters.{number_of};
 ghost use Rattle.spc700_asm.specs.Statements.{all_of, items_of, statement_of};
 ghost use Rattle.spc700_asm.specs.Labels.{Labels, size_of_line};
 ghost use Rattle.spc700_asm.specs.Faults.{has_great_operand, has_great_number};
-ghost use Rattle.spc700_asm.specs.Assembly.{number_written, plain_number, operand_number, instruction_written, is_far_operand, is_far, instruction_bytes, number_bytes, line_bytes, with_front, bytes_of_lines, lines_of, most_source, Refuses};
+ghost use Rattle.spc700_asm.specs.Assembly.{number_written, plain_number, operand_number, instruction_written, is_far_operand, is_far, instruction_bytes, number_bytes, line_bytes, with_front, bytes_of_lines, lines_of, max_source, Refuses};
 ghost use Rattle.spc700_asm.specs.Seen.{written_seen, operand_seen, statement_seen, as_seen};
 ghost use Rattle.spc700_asm.specs.Names.{Holds, Adds, AddsLine, word_bytes, bytes_of_source, IsBytesFault, IsFine, AreFine};
 
@@ -267,7 +267,7 @@ fn push_line(out: &mut Vec<u8>, names: &Names, at: u32, line: &[u8]) -> Result<u
 
 /// The bytes of lines from an origin on that have none of the first four faults, or the first line with one of the last two.
 pub fn emit(alloc: Global, names: &Names, source: &[u8], origin: u16) -> Result<Vec<u8>, AsmRefusal>
-    requires length { length source.now ≤ most_source }
+    requires length { length source.now ≤ max_source }
     requires fine { AreFine origin (lines_of source.now) }
     ensures bytes { (labels : Labels) → Holds names.now labels → IfOk result (λ bytes. bytes_of_source labels origin source.now ≡ Ok bytes.items) }
     ensures refusal { (labels : Labels) → Holds names.now labels → IfErr result (λ refusal. Refuses refusal (bytes_of_source labels origin source.now)) }

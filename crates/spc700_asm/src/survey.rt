@@ -4,7 +4,7 @@ ghost use Rattle.spc700_asm.specs.Instructions.{memory_end};
 ghost use Rattle.spc700_asm.specs.Statements.{statement_of};
 ghost use Rattle.spc700_asm.specs.Labels.{size_of_line, label_at, labels_of};
 ghost use Rattle.spc700_asm.specs.Faults.{first_fault, first_refusal};
-ghost use Rattle.spc700_asm.specs.Assembly.{lines_of, most_source};
+ghost use Rattle.spc700_asm.specs.Assembly.{lines_of, max_source};
 ghost use Rattle.spc700_asm.specs.Seen.{statement_seen};
 ghost use Rattle.spc700_asm.specs.Names.{Holds, OfNames, Defines, IsFault, IsRefusal};
 
@@ -53,7 +53,7 @@ fn survey_line<'a>(names: &mut Names<'a>, at: u32, line: &'a [u8]) -> Result<u32
 
 /// The names that the lines of a source define from an origin on, or the first line with one of the four faults.
 pub fn survey(alloc: Global, source: &[u8], origin: u16) -> Result<Names<'_>, AsmRefusal>
-    requires { length source.now ≤ most_source }
+    requires { length source.now ≤ max_source }
     ensures fine { OnOk result (first_refusal origin [] (lines_of source.now) ≡ None) }
     ensures names { IfOk result (λ names. Holds names (labels_of origin (lines_of source.now))) }
     ensures refusal { IfErr result (λ refusal. IsRefusal refusal (first_refusal origin [] (lines_of source.now))) }

@@ -86,7 +86,7 @@ five a b c d e h =
     let rest = four b c d e (and_parts a _ h).1 in
     ((and_parts a _ h).0, rest.0, rest.1, rest.2, rest.3)
 
--- what the first test tells
+-- what the first test shows
 tests_of_fit : (row : OpRow) → row_fits row ≡ true → (form_fits row.first ≡ true) × (form_fits row.second ≡ true) × (nat_le row.cycles row.taken ≡ true) × (nat_le row.taken 12 ≡ true) × ((halts row.kind || nat_le 1 row.cycles) ≡ true)
 tests_of_fit row h = five (form_fits row.first) (form_fits row.second) (nat_le row.cycles row.taken) (nat_le row.taken 12) (halts row.kind || nat_le 1 row.cycles) h
 

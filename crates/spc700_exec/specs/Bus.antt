@@ -1,22 +1,22 @@
 -- What contracts see of a bus: three functions on the bus as plain data, and three numbers of it.
 use Rattle.std.specs.Prelude.{◌≡◌, ℕ, ◌+◌, ◌/◌}
-use Rattle.num_fix.specs.Limits.{greatest_sample_number}
-use Rattle.spc700_exec.specs.declared.bus.TheConstants.{CYCLES_PER_SAMPLE, MOST_CALLS, MOST_CALLS_BEFORE_STEP}
+use Rattle.num_fix.specs.Limits.{max_sample_number}
+use Rattle.spc700_exec.specs.declared.bus.TheConstants.{CYCLES_PER_SAMPLE, MAX_CALLS, MAX_CALLS_BEFORE_STEP}
 
 -- before a pass, fewer samples than this are due
-abbrev pub most_samples_of_bus : ℕ
-most_samples_of_bus = greatest_sample_number
+abbrev pub max_samples_of_bus : ℕ
+max_samples_of_bus = max_sample_number
 
 -- the calls between two drains at most, and those before a step
-abbrev pub most_calls : ℕ
-most_calls = MOST_CALLS
+abbrev pub max_calls : ℕ
+max_calls = MAX_CALLS
 
-abbrev pub most_calls_before_step : ℕ
-most_calls_before_step = MOST_CALLS_BEFORE_STEP
+abbrev pub max_calls_before_step : ℕ
+max_calls_before_step = MAX_CALLS_BEFORE_STEP
 
 -- the calls of one step at most
-abbrev pub most_calls_of_step : ℕ
-most_calls_of_step = 13
+abbrev pub max_calls_of_step : ℕ
+max_calls_of_step = 13
 
 pub record BusMeaning (S : Type 0) : Type 0 where
   -- a read of an address: the byte, and the bus after it

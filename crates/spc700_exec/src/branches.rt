@@ -98,9 +98,9 @@ impl Execute for BranchIfDifferent {
 
 /// DBNZ.
 #[derive(Clone, Copy)]
-pub struct CountDown;
+pub struct Dbnz;
 
-impl Execute for CountDown {
+impl Execute for Dbnz {
     ghost operation = { λ _. operations.CountBranch };
 
     #[inline(always)]

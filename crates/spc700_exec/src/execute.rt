@@ -12,7 +12,7 @@ use crate::cpu::Cpu;
 use spc700_table::{OpRow, row};
 
 /// An operation: what an instruction does once its opcode was read. What is inlined into the arm of an opcode finds the row a constant
-/// there, so that no form is told apart while a program runs.
+/// there, so that no form is distinguished while a program runs.
 pub trait Execute: Copy {
     /// The operation of the instruction list.
     ghost operation: { Self → Operation };

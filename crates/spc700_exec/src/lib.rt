@@ -19,7 +19,7 @@ mod stack;
 mod stepping;
 mod word_instructions;
 
-pub use bus::{Bus, CYCLES_PER_SAMPLE, MOST_CALLS, MOST_CALLS_BEFORE_STEP};
+pub use bus::{Bus, CYCLES_PER_SAMPLE, MAX_CALLS, MAX_CALLS_BEFORE_STEP};
 pub use cpu::Cpu;
 pub use laws::{
     accesses_are_those_of_the_table, asking_makes_the_step, forms_suit_their_operations,

@@ -1,5 +1,5 @@
 //! The instruction of each opcode. Each has an arm of its own with everything in it inlined: its row is a constant there, so
-//! that no form is told apart while a program runs, and the rest of its cycles is a constant too. The functions of sixteen
+//! that no form is distinguished while a program runs, and the rest of its cycles is a constant too. The functions of sixteen
 //! opcodes are inlined into `instruct`, and that into the step, so that a step goes to its arm at once.
 #![tactic(auto, unfolding(spc700_table::specs::Opcodes::row_of, spc700_table::specs::Opcodes::columns, spc700_table::specs::Cycles::printed_cycles, spc700_table::specs::Cycles::cycle_map))]
 
@@ -8,16 +8,14 @@ ghost use Rattle.spc700_table.specs.Opcodes.{row_of};
 ghost use Rattle.spc700_exec.specs.Pieces.{HasAccessesLeft, IsWholeInstruction};
 
 use crate::bits::{BitInPlace, BitToCarry, TestAndClear, TestAndSet};
-use crate::branches::{BranchAlways, BranchIfDifferent, BranchOnBit, BranchOnFlag, CountDown};
+use crate::branches::{BranchAlways, BranchIfDifferent, BranchOnBit, BranchOnFlag, Dbnz};
 use crate::bus::Bus;
 use crate::bytes::Modification::{Down, Shift, Up};
 use crate::bytes::{Adc, Calculate, Compare, Move, Sbc};
 use crate::cpu::Cpu;
 use crate::execute::execute_whole;
 use crate::jumps::{Break, Call, InterruptReturn, Jump, Pop, Push, Return, TableCall, halt};
-use crate::registers::{
-    AdjustDifference, AdjustSum, ClearOverflow, Divide, Exchange, Multiply, Nop, PutFlag, TurnCarry,
-};
+use crate::registers::{ClearOverflow, Daa, Das, Divide, Exchange, Multiply, Nop, Notc, PutFlag};
 use crate::word_instructions::{MoveWord, WordCalculation, WordDown, WordUp};
 use spc700_alu::flags::{CARRY, DIRECT_PAGE, INTERRUPT, NEGATIVE, OVERFLOW, ZERO};
 use spc700_alu::{BitKind, LogicKind, ShiftKind};
@@ -175,7 +173,7 @@ fn from_60<B: Bus>(cpu: &mut Cpu, bus: &mut B, low: u8)
         0xA => BitToCarry(BitKind::AndNot),
         0xB | 0xC => Shift(ShiftKind::Ror),
         0xD => Push,
-        0xE => CountDown,
+        0xE => Dbnz,
         _ => execute_whole(cpu, bus, 0x6F, Return)
     )
 }
@@ -279,7 +277,7 @@ fn from_b0<B: Bus>(cpu: &mut Cpu, bus: &mut B, low: u8)
         0xA => WordCalculation::Load,
         0xB | 0xC => Up,
         0xD => Move,
-        0xE => AdjustDifference,
+        0xE => Das,
         _ => execute_whole(cpu, bus, 0xBF, Move)
     )
 }
@@ -320,7 +318,7 @@ fn from_d0<B: Bus>(cpu: &mut Cpu, bus: &mut B, low: u8)
         0xA => MoveWord,
         0xC => Down,
         0xE => BranchIfDifferent,
-        _ => execute_whole(cpu, bus, 0xDF, AdjustSum)
+        _ => execute_whole(cpu, bus, 0xDF, Daa)
     )
 }
 
@@ -338,7 +336,7 @@ fn from_e0<B: Bus>(cpu: &mut Cpu, bus: &mut B, low: u8)
         0x3 => BranchOnBit(true),
         0x4 | 0x5 | 0x6 | 0x7 | 0x8 | 0x9 | 0xB | 0xC => Move,
         0xA => BitInPlace(BitKind::Not),
-        0xD => TurnCarry,
+        0xD => Notc,
         0xE => Pop,
         _ => halt(cpu, bus, 0xEF)
     )
@@ -358,7 +356,7 @@ fn from_f0<B: Bus>(cpu: &mut Cpu, bus: &mut B, low: u8)
         0x3 => BranchOnBit(false),
         0x4 | 0x5 | 0x6 | 0x7 | 0x8 | 0x9 | 0xA | 0xB | 0xD => Move,
         0xC => Up,
-        0xE => CountDown,
+        0xE => Dbnz,
         _ => halt(cpu, bus, 0xFF)
     )
 }

@@ -1,6 +1,6 @@
 //! Operands: the bytes that a form reads, the operand that it names, and the byte or word there.
 //!
-//! Everything here is inlined into the arm of its opcode, where the row is a constant: no form is told apart there at run time.
+//! Everything here is inlined into the arm of its opcode, where the row is a constant: no form is distinguished there at run time.
 
 ghost use Rattle.std.specs.Prelude.{◌≡◌, ◌+◌, ◌/◌, ◌%◌, ◌^◌, ◌<◌, ◌≤◌, if◌then◌else◌};
 ghost use Rattle.spc700_table.specs.Opcodes.{operand_bytes};

@@ -49,9 +49,9 @@ impl Execute for PutFlag {
 
 /// NOTC.
 #[derive(Clone, Copy)]
-pub struct TurnCarry;
+pub struct Notc;
 
-impl Execute for TurnCarry {
+impl Execute for Notc {
     ghost operation = { λ _. operations.OnStatus (λ psw. with_flag C (not (flag C psw)) psw) };
 
     #[inline(always)]
@@ -112,9 +112,9 @@ impl Execute for Exchange {
 
 /// DAA.
 #[derive(Clone, Copy)]
-pub struct AdjustSum;
+pub struct Daa;
 
-impl Execute for AdjustSum {
+impl Execute for Daa {
     ghost operation = { λ _. operations.OnA daa_of };
 
     #[inline(always)]
@@ -126,9 +126,9 @@ impl Execute for AdjustSum {
 
 /// DAS.
 #[derive(Clone, Copy)]
-pub struct AdjustDifference;
+pub struct Das;
 
-impl Execute for AdjustDifference {
+impl Execute for Das {
     ghost operation = { λ _. operations.OnA das_of };
 
     #[inline(always)]

@@ -1,6 +1,6 @@
 //! The stack: page 1, downwards.
 //!
-//! Everything here is inlined into the arm of its opcode, where the row is a constant: no form is told apart there at run time.
+//! Everything here is inlined into the arm of its opcode, where the row is a constant: no form is distinguished there at run time.
 
 ghost use Rattle.std.specs.Prelude.{◌≡◌, ◌+◌, ◌-◌, ◌/◌, ◌%◌};
 ghost use Rattle.spc700_exec.specs.Bus.{byte_read, after_read, after_write};

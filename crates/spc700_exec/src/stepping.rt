@@ -3,7 +3,7 @@
 //! Its parts are inlined, so that a step goes to the arm of its opcode at once.
 
 ghost use Rattle.std.specs.Prelude.{◌≡◌, false, ◌+◌, ◌-◌, ◌<◌, ◌≤◌};
-ghost use Rattle.spc700_exec.specs.Bus.{most_calls_before_step, most_calls_of_step, most_samples_of_bus};
+ghost use Rattle.spc700_exec.specs.Bus.{max_calls_before_step, max_calls_of_step, max_samples_of_bus};
 ghost use Rattle.spc700_exec.specs.Instruction.{step_outcome};
 ghost use Rattle.spc700_exec.specs.Pieces.{HasAccessesLeft};
 
@@ -16,7 +16,7 @@ use crate::operand::fetch;
 // In line in the step.
 #[inline(always)]
 fn advance_awake<B: Bus>(cpu: &mut Cpu, bus: &mut B)
-    requires room { HasAccessesLeft most_calls_of_step B.means bus.old }
+    requires room { HasAccessesLeft max_calls_of_step B.means bus.old }
     requires awake { cpu.old.halted ≡ false }
     ensures { (cpu.new, bus.new) ≡ step_outcome B.means cpu.old bus.old }
 {
@@ -28,7 +28,7 @@ fn advance_awake<B: Bus>(cpu: &mut Cpu, bus: &mut B)
 // In line in the step.
 #[inline(always)]
 fn advance<B: Bus>(cpu: &mut Cpu, bus: &mut B)
-    requires { HasAccessesLeft most_calls_of_step B.means bus.old }
+    requires { HasAccessesLeft max_calls_of_step B.means bus.old }
     ensures { (cpu.new, bus.new) ≡ step_outcome B.means cpu.old bus.old }
 {
     if cpu.halted {
@@ -46,10 +46,10 @@ fn advance<B: Bus>(cpu: &mut Cpu, bus: &mut B)
 // registers and the bus's clock at hand from step to step.
 #[inline(always)]
 pub fn step<B: Bus>(cpu: &mut Cpu, bus: &mut B)
-    requires room { B.means.calls bus.old ≤ most_calls_before_step }
-    requires time { B.means.due bus.old < most_samples_of_bus - 1 }
+    requires room { B.means.calls bus.old ≤ max_calls_before_step }
+    requires time { B.means.due bus.old < max_samples_of_bus - 1 }
     ensures does { (cpu.new, bus.new) ≡ step_outcome B.means cpu.old bus.old }
-    ensures calls { B.means.calls bus.new ≤ B.means.calls bus.old + most_calls_of_step }
+    ensures calls { B.means.calls bus.new ≤ B.means.calls bus.old + max_calls_of_step }
     ensures some { B.means.clock bus.old + 1 ≤ B.means.clock bus.new }
     ensures short { B.means.clock bus.new ≤ B.means.clock bus.old + CYCLES_PER_SAMPLE }
     ensures sample { B.means.due bus.new ≤ B.means.due bus.old + 1 }
@@ -60,11 +60,11 @@ pub fn step<B: Bus>(cpu: &mut Cpu, bus: &mut B)
 /// One step of a processor of which the caller knows that it isn't halted: the step doesn't ask.
 #[inline(always)]
 pub fn step_awake<B: Bus>(cpu: &mut Cpu, bus: &mut B)
-    requires room { B.means.calls bus.old ≤ most_calls_before_step }
-    requires time { B.means.due bus.old < most_samples_of_bus - 1 }
+    requires room { B.means.calls bus.old ≤ max_calls_before_step }
+    requires time { B.means.due bus.old < max_samples_of_bus - 1 }
     requires awake { cpu.old.halted ≡ false }
     ensures does { (cpu.new, bus.new) ≡ step_outcome B.means cpu.old bus.old }
-    ensures calls { B.means.calls bus.new ≤ B.means.calls bus.old + most_calls_of_step }
+    ensures calls { B.means.calls bus.new ≤ B.means.calls bus.old + max_calls_of_step }
     ensures some { B.means.clock bus.old + 1 ≤ B.means.clock bus.new }
     ensures short { B.means.clock bus.new ≤ B.means.clock bus.old + CYCLES_PER_SAMPLE }
     ensures sample { B.means.due bus.new ≤ B.means.due bus.old + 1 }

@@ -1,4 +1,4 @@
--- What the head of a file tells is told by the bytes that are given and by what is kept of them alike.
+-- What the head of a file shows is given by the bytes that are given and by what is kept of them alike.
 use Rattle.std.proofs.Common.{◌≡◌, ◌∙◌, ap, sym, ℕ, ◌+◌, ◌-◌, ◌<◌, ◌≤◌, ◌++◌, List, [], ◌∷◌, zero, suc, length, take, drop, refl, append_assoc, lit≤, arith}
 use Rattle.std.specs.Prelude.{replicate, slice_index, map, ◌==◌, if◌then◌else◌, None}
 use Rattle.std.specs.List.{before_first, position_or_len}
@@ -10,7 +10,7 @@ use Rattle.spc_form.specs.declared.tags.Tag.TheVariants.{Title, Game, Dumper, Co
 use Rattle.spc_form.specs.Accepted.{kept_length, padded_bytes}
 use Rattle.spc_form.specs.Inspection.{info_of, StandThere}
 use Rattle.spc_form.specs.Layout.{part_of}
-use Rattle.spc_form.specs.Tags.{field_start, field_size, text_of, has_tags, seconds_told, length_of, number_in, length_of_numbers, is_some_time, all_tags}
+use Rattle.spc_form.specs.Tags.{field_start, field_size, text_of, has_tags, seconds_known, length_of, number_in, length_of_numbers, is_some_time, all_tags}
 
 take-take : {X : Type 0} (n m : ℕ) (xs : List X) → n ≤ m → take n (take m xs) ≡ take n xs
 take-take zero m xs few = refl
@@ -58,19 +58,19 @@ module _ (bytes : List ℕ) (long : HEAD_SIZE ≤ length bytes) where
       let inside = field_inside tag in
       ap (before_first (λ byte. byte == 0)) (part_of-padded bytes (field_start tag) (field_size tag) (omega (arith, inside, long)) (omega (arith, inside)))
 
-  seconds_told-padded : seconds_told (padded_bytes bytes) ≡ seconds_told bytes
-  unfolding seconds_told
-  seconds_told-padded = λ i. if has_tags-padded i then number_in (text_of-padded Seconds i) else None
+  seconds_known-padded : seconds_known (padded_bytes bytes) ≡ seconds_known bytes
+  unfolding seconds_known
+  seconds_known-padded = λ i. if has_tags-padded i then number_in (text_of-padded Seconds i) else None
 
   length_of-padded : length_of (padded_bytes bytes) ≡ length_of bytes
   unfolding length_of
-  length_of-padded = λ i. length_of_numbers (seconds_told-padded i) (number_in (text_of-padded Fade i))
+  length_of-padded = λ i. length_of_numbers (seconds_known-padded i) (number_in (text_of-padded Fade i))
 
   pub info_of-padded : info_of (padded_bytes bytes) ≡ info_of bytes
   info_of-padded = λ i. record {
     length = length_of-padded i;
     is_tagged = has_tags-padded i;
-    is_length_told = is_some_time (seconds_told-padded i);
+    is_length_known = is_some_time (seconds_known-padded i);
     texts = map (λ tag. record { offset = field_start tag; length = length (text_of-padded tag i) }) all_tags;
   }
 

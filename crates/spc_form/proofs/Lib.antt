@@ -1,4 +1,4 @@
--- Texts: the digits at the front of a text. Padding: what is kept of a file. Heads: what its head tells. Signatures: where bytes differ from
+-- Texts: the digits at the front of a text. Padding: what is kept of a file. Heads: what its head shows. Signatures: where bytes differ from
 -- those that are wanted. Refusals: an answer that is known, and the refusals that it leaves.
 pub mod Texts
 pub mod Padding

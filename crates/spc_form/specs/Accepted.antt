@@ -1,25 +1,25 @@
 -- Which bytes are an SPC file (SPC file format text v0.30; that short files are accepted and whatever follows the signature is own).
 use Rattle.std.specs.Prelude.{ℕ, ◌+◌, ◌-◌, ◌==◌, ◌&&◌, Bool, List, [], ◌∷◌, ◌++◌, length, take, replicate, codes, Option, Some, None, Result, Ok, Err, nat_le, if◌then◌else◌}
 use Rattle.std.specs.Option.{option_map}
-use Rattle.num_fix.specs.Limits.{most_input}
+use Rattle.num_fix.specs.Limits.{max_input}
 use Rattle.spc_form.specs.declared.parts.TheConstants.{KEPT_LENGTH}
 use Rattle.spc_form.specs.declared.reading.SpcRefusal.{SpcRefusal}
 use Rattle.spc_form.specs.declared.reading.SpcRefusal.TheVariants.{Length, Signature}
 
 -- the least length that is accepted: that of a file whose last 128 bytes are missing
-abbrev pub least_length : ℕ
-least_length = 65920
+abbrev pub min_length : ℕ
+min_length = 65920
 
 -- the greatest
-abbrev pub greatest_length : ℕ
-greatest_length = most_input
+abbrev pub max_length : ℕ
+max_length = max_input
 
 -- how many bytes are kept of a file
 abbrev pub kept_length : ℕ
 kept_length = KEPT_LENGTH
 
 abbrev pub is_spc_length : ℕ → Bool
-is_spc_length n = nat_le least_length n && nat_le n greatest_length
+is_spc_length n = nat_le min_length n && nat_le n max_length
 
 -- what a file begins with
 abbrev pub signature : List ℕ

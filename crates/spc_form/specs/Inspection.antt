@@ -1,4 +1,4 @@
--- What the bytes of a file tell, before they are read (own).
+-- What the bytes of a file say, before they are read (own).
 use Rattle.std.specs.Prelude.{◌≡◌, ℕ, List, length, map, Result, Ok, Err}
 use Rattle.spc_form.specs.declared.inspection.SpcInfo.{SpcInfo}
 use Rattle.spc_form.specs.declared.inspection.TextPlace.{TextPlace}
@@ -6,22 +6,22 @@ use Rattle.spc_form.specs.declared.reading.SpcRefusal.{SpcRefusal}
 use Rattle.spc_form.specs.declared.tags.Tag.{Tag}
 use Rattle.spc_form.specs.Accepted.{spc_file}
 use Rattle.spc_form.specs.Layout.{part_of}
-use Rattle.spc_form.specs.Tags.{field_start, text_of, has_tags, length_of, is_length_told, all_tags}
+use Rattle.spc_form.specs.Tags.{field_start, text_of, has_tags, length_of, is_length_known, all_tags}
 
 -- where the text of a tag stands in a file
 abbrev pub text_place : (file : List ℕ) → Tag → TextPlace
 text_place file tag = record { offset = field_start tag; length = length (text_of file tag) }
 
--- what a file tells
+-- what a file says
 abbrev pub info_of : (file : List ℕ) → SpcInfo
 info_of file = record {
   length = length_of file;
   is_tagged = has_tags file;
-  is_length_told = is_length_told file;
+  is_length_known = is_length_known file;
   texts = map (text_place file) all_tags;
 }
 
--- what bytes tell that are a file, or why they are none
+-- what bytes say that are a file, or why they are none
 abbrev pub info_from : Result (List ℕ) SpcRefusal → Result SpcInfo SpcRefusal
 info_from (Ok file) = Ok (info_of file)
 info_from (Err refusal) = Err refusal

@@ -1,7 +1,7 @@
 -- Accepted: which bytes are an SPC file, and what is kept of them.
 -- Layout: the places of an SPC file.
 -- Tags: the text of the tags, and the length that they give.
--- Inspection: what bytes tell before they are read.
+-- Inspection: what bytes say before they are read.
 -- Opening: what the machine begins with.
 pub mod Accepted
 pub mod Layout

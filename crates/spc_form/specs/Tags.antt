@@ -57,30 +57,30 @@ length_of_times seconds milliseconds = record {
 abbrev pub default_length : Length
 default_length = record { frames = 5760000; fade = 0 }
 
--- the most frames that both fields can tell: 999 seconds, and a fade of 99,999 milliseconds
-abbrev pub most_told_frames : ℕ
-most_told_frames = 35167968
+-- the most frames that both fields can give: 999 seconds, and a fade of 99,999 milliseconds
+abbrev pub max_length_of_tags : ℕ
+max_length_of_tags = 35167968
 
 -- the length by the numbers of both fields
 abbrev pub length_of_numbers : (seconds fade : Option ℕ) → Length
 length_of_numbers None fade = default_length
 length_of_numbers (Some seconds) fade = if seconds == 0 then default_length else length_of_times seconds (unwrap_or fade 0)
 
--- the seconds that the tags tell: none where the file has no tags, or no number there
-unfoldable pub seconds_told : (file : List ℕ) → Option ℕ
-seconds_told file = if has_tags file then number_in (text_of file Seconds) else None
+-- the seconds that the tags give: none where the file has no tags, or no number there
+unfoldable pub seconds_known : (file : List ℕ) → Option ℕ
+seconds_known file = if has_tags file then number_in (text_of file Seconds) else None
 
 -- the length that a file asks for
 unfoldable pub length_of : (file : List ℕ) → Length
-length_of file = length_of_numbers (seconds_told file) (number_in (text_of file Fade))
+length_of file = length_of_numbers (seconds_known file) (number_in (text_of file Fade))
 
--- whether it is the tags that tell it: by a number of seconds above 0
+-- whether it is the tags that give it: by a number of seconds above 0
 abbrev pub is_some_time : Option ℕ → Bool
 is_some_time None = false
 is_some_time (Some seconds) = not (seconds == 0)
 
-abbrev pub is_length_told : (file : List ℕ) → Bool
-is_length_told file = is_some_time (seconds_told file)
+abbrev pub is_length_known : (file : List ℕ) → Bool
+is_length_known file = is_some_time (seconds_known file)
 
 -- all tags, in the order in which they are numbered for callers
 abbrev pub all_tags : List Tag

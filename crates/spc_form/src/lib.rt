@@ -12,7 +12,7 @@ mod tags;
 pub use file::SpcFile;
 pub use inspection::{SpcInfo, TextPlace, inspect};
 pub use parts::{DSP_PLACE, KEPT_LENGTH, MEMORY_PLACE};
-pub use reading::{GREATEST_LENGTH, SpcRefusal, read_spc, write_spc};
+pub use reading::{MAX_LENGTH, SpcRefusal, read_spc, write_spc};
 pub use state::{OpenState, opening};
 pub use std::alloc::AllocError as OutOfMemory;
 pub use tags::{Length, Tag};

@@ -1,6 +1,6 @@
 // Reading and writing.
 ghost use Rattle.std.specs.Prelude.{◌≡◌, ◌≤◌, ◌⊎◌, length, vec_len, None, Ok, Err, IfOk, IfErr, IfSome};
-ghost use Rattle.spc_form.specs.Accepted.{least_length, signature, first_difference, padded_to, padded_bytes, kept_length, spc_file};
+ghost use Rattle.spc_form.specs.Accepted.{min_length, signature, first_difference, padded_to, padded_bytes, kept_length, spc_file};
 ghost use Rattle.spc_form.specs.declared.reading.SpcRefusal.TheVariants.{OutOfMemory as MemoryRefusal};
 
 use crate::parts::KEPT_LENGTH;
@@ -9,10 +9,10 @@ use std::alloc::Global;
 use thiserror::Error;
 
 /// The greatest length of a file in bytes: 1 MB.
-pub const GREATEST_LENGTH: usize = 1048576;
+pub const MAX_LENGTH: usize = 1048576;
 
 /// The least length: that of a file whose last 128 bytes are missing.
-const LEAST_LENGTH: usize = 65920;
+const MIN_LENGTH: usize = 65920;
 
 /// What a file begins with.
 const SIGNATURE: [u8; 27] = *b"SNES-SPC700 Sound File Data";
@@ -68,10 +68,10 @@ fn padded_to(alloc: Global, bytes: &[u8], size: usize) -> Result<Vec<u8>, OutOfM
 pub(crate) fn refusal_of(bytes: &[u8]) -> Option<SpcRefusal>
     ensures refused { IfSome result (λ refusal. spc_file bytes.now ≡ Err refusal) }
     ensures accepted { result ≡ None → spc_file bytes.now ≡ Ok (padded_bytes bytes.now) }
-    ensures long { result ≡ None → least_length ≤ length bytes.now }
+    ensures long { result ≡ None → min_length ≤ length bytes.now }
     ensures signed { result ≡ None → first_difference signature bytes.now ≡ None }
 {
-    if bytes.len() < LEAST_LENGTH || bytes.len() > GREATEST_LENGTH {
+    if bytes.len() < MIN_LENGTH || bytes.len() > MAX_LENGTH {
         return Some(SpcRefusal::Length(bytes.len()));
     }
     match first_difference(bytes) {

@@ -3,7 +3,7 @@ ghost use Rattle.std.specs.Prelude.{◌≡◌, true, false, ◌+◌, ◌*◌, �
 ghost use Rattle.std.specs.List.{before_first, list_all, prefix_len};
 ghost use Rattle.std.specs.Option.{ForSome};
 ghost use Rattle.std.specs.Char.{IsAsciiDigit, is_ascii_digit};
-ghost use Rattle.spc_form.specs.Tags.{most_told_frames, field_start, field_size, text_of, number_in, has_tags, seconds_told, is_length_told, default_length, length_of, length_of_numbers};
+ghost use Rattle.spc_form.specs.Tags.{max_length_of_tags, field_start, field_size, text_of, number_in, has_tags, seconds_known, is_length_known, default_length, length_of, length_of_numbers};
 
 use crate::SpcFile;
 use crate::parts::{HEAD_SIZE, TAG_MARK_PLACE, part};
@@ -13,7 +13,7 @@ use text_form::{decimal_value, place_of};
 /// The samples of a millisecond.
 pub const SAMPLES_PER_MILLISECOND: u32 = 32;
 
-/// The frames of a file whose tags tell no length: three minutes.
+/// The frames of a file whose tags give no length: three minutes.
 const UNTOLD_FRAMES: u32 = 180 * SAMPLE_RATE;
 
 /// The tags of a file (SPC file format text v0.30).
@@ -124,7 +124,7 @@ fn length_of_numbers(seconds: Option<u32>, fade: Option<u32>) -> Length
     requires seconds { ForSome seconds (λ number. number < 1000) }
     requires fade { ForSome fade (λ number. number < 100000) }
     ensures length { result ≡ length_of_numbers seconds fade }
-    ensures most { result.frames ≤ most_told_frames }
+    ensures most { result.frames ≤ max_length_of_tags }
     ensures fade_within { result.fade ≤ result.frames }
 {
     match seconds {
@@ -160,11 +160,11 @@ pub(crate) fn text_in(bytes: &[u8], tag: Tag) -> &[u8]
     before_zero(part(bytes, field_start(tag), field_size(tag)))
 }
 
-/// The seconds that the tags tell.
-#[tactic(auto, unfolding(crate::specs::Tags::seconds_told))]
-fn seconds_told_in(bytes: &[u8]) -> Option<u32>
+/// The seconds that the tags give.
+#[tactic(auto, unfolding(crate::specs::Tags::seconds_known))]
+fn seconds_known_in(bytes: &[u8]) -> Option<u32>
     requires { HEAD_SIZE ≤ length bytes.now }
-    ensures seconds { result ≡ seconds_told bytes.now }
+    ensures seconds { result ≡ seconds_known bytes.now }
     ensures three { IfSome result (λ seconds. seconds < 1000) }
 {
     if is_tagged_in(bytes) {
@@ -179,21 +179,24 @@ fn seconds_told_in(bytes: &[u8]) -> Option<u32>
 pub(crate) fn length_in(bytes: &[u8]) -> Length
     requires { HEAD_SIZE ≤ length bytes.now }
     ensures length { result ≡ length_of bytes.now }
-    ensures most { result.frames ≤ most_told_frames }
+    ensures most { result.frames ≤ max_length_of_tags }
     ensures fade_within { result.fade ≤ result.frames }
 {
-    length_of_numbers(seconds_told_in(bytes), number_in(text_in(bytes, Tag::Fade)))
+    length_of_numbers(
+        seconds_known_in(bytes),
+        number_in(text_in(bytes, Tag::Fade)),
+    )
 }
 
-/// Whether it is the tags that tell the length. Where they don't it is three minutes; where they do, a second at least comes before the fade.
+/// Whether it is the tags that give the length. Where they don't it is three minutes; where they do, a second at least comes before the fade.
 #[tactic(auto, unfolding(crate::specs::Tags::length_of))]
-pub(crate) fn is_length_told_in(bytes: &[u8]) -> bool
+pub(crate) fn is_length_known_in(bytes: &[u8]) -> bool
     requires { HEAD_SIZE ≤ length bytes.now }
-    ensures told { result ≡ is_length_told bytes.now }
+    ensures known { result ≡ is_length_known bytes.now }
     ensures untold { result ≡ false → length_of bytes.now ≡ default_length }
     ensures second { result ≡ true → (length_of bytes.now).fade + SAMPLE_RATE ≤ (length_of bytes.now).frames }
 {
-    match seconds_told_in(bytes) {
+    match seconds_known_in(bytes) {
         Some(seconds) => seconds != 0,
         None => false,
     }
@@ -211,7 +214,7 @@ impl SpcFile {
     /// three minutes without a fade where the tags give no length.
     pub fn length(&self) -> Length
         ensures length { result ≡ length_of self.now }
-        ensures most { result.frames ≤ most_told_frames }
+        ensures most { result.frames ≤ max_length_of_tags }
         ensures fade_within { result.fade ≤ result.frames }
     {
         length_in(self.as_slice())

@@ -29,7 +29,7 @@ inputs_from (Err refusal) table = Err (of_spc refusal)
 inputs_from (Ok file) (Err refusal) = Err (of_table refusal)
 inputs_from (Ok file) (Ok weights) = Ok (record { file = file; weights = weights })
 
--- the file is told before the table
+-- the file is reported before the table
 abbrev pub inputs_of : (bytes table : List ℕ) → Result Inputs PlayerRefusal
 inputs_of bytes table = inputs_from (spc_file bytes) (weights_in table)
 

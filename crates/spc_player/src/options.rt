@@ -3,8 +3,8 @@ ghost use Rattle.std.specs.Prelude.{◌≡◌};
 ghost use Rattle.spc_player.specs.Options.{are_in_range};
 
 use cut_form::PAGE_COUNT;
-use page_pool::MOST_PAGES;
-use player::MOST_MARK_SECONDS;
+use page_pool::MAX_PAGES;
+use player::MAX_MARK_SECONDS;
 
 /// What a player is opened with beside its tune.
 #[derive(Clone, Copy, Debug, PartialEq, Eq)]
@@ -24,7 +24,7 @@ impl PlayerOptions {
         ensures { result ≡ are_in_range self.now }
     {
         self.pages >= PAGE_COUNT as u32
-            && self.pages <= MOST_PAGES
-            && self.mark_seconds <= MOST_MARK_SECONDS
+            && self.pages <= MAX_PAGES
+            && self.mark_seconds <= MAX_MARK_SECONDS
     }
 }

@@ -8,7 +8,7 @@ use std::process::Abort;
 use std::test::Fail;
 use test_support::{DSP, FILE_LENGTH, FIVE, Pieces, file_of, straight_table};
 
-/// Tags that tell a title, a second, and a fade of a millisecond, 32 frames.
+/// Tags that show a title, a second, and a fade of a millisecond, 32 frames.
 const TOLD: &[(usize, &[u8])] = &[
     (0x23, b"\x1a"),
     (0x2e, b"Five steps"),
@@ -67,7 +67,7 @@ fn look_at_the_fade(rt: &impl Abort, player: &mut Player<Dsp>) {
 
 /// An end of the caller's: 16 frames of a fade, in steps of 4000 / 16, and then back to that of the tags.
 fn look_at_another_end(rt: &impl Abort, player: &mut Player<Dsp>) {
-    let told = player.length();
+    let known = player.length();
     player.set_end(Length {
         frames: 64,
         fade: 16,
@@ -77,8 +77,8 @@ fn look_at_another_end(rt: &impl Abort, player: &mut Player<Dsp>) {
     assert!(rt; player.play_faded(&mut frames) == 16);
     let (first, last, behind) = (frames[0], frames[15], frames[16]);
     assert!(rt; (first, last, behind) == (even(3750), even(0), even(1)));
-    assert!(rt; player.length() == told);
-    player.set_end(told);
+    assert!(rt; player.length() == known);
+    player.set_end(known);
     assert!(rt; player.play_faded(&mut frames) == 20);
 }
 

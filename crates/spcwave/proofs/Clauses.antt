@@ -3,15 +3,15 @@ use Rattle.std.proofs.Common.{◌≡◌, ◌≢◌, ◌⊎◌, inl, inr, ℕ, �
 use Rattle.std.specs.Prelude.{unwrap_or, slice_index, ◌↔◌}
 use Rattle.snd_host.specs.Host.{HostState, Files, Output}
 use Rattle.snd_host.proofs.OpenedInputs.{in_order_same}
-use Rattle.command_frame.specs.Answer.{Answer, refusal_of, outputs_of, report_of}
-use Rattle.command_frame.specs.Conduct.{IsOfDelivery, AttemptsAs, WritesComplaint, Obeys}
-use Rattle.command_frame.specs.Delivery.{all_ended}
-use Rattle.command_frame.specs.Leaves.{Leaves, LeavesNothing, LeavesAll, Complains}
-use Rattle.command_frame.specs.declared.refusals.Refusal.{Refusal}
-use Rattle.command_frame.specs.declared.refusals.Refusal.TheVariants.{Usage, ReadFault, WriteFault, OutOfMemory, Input}
-use Rattle.command_frame.proofs.Sequences.{since_then}
-use Rattle.command_frame.proofs.Making.{at_once_complained, in_turn_complained}
-use Rattle.command_frame.proofs.Leaving.{leaves, complains, reports_last, reports_behind_ended}
+use Rattle.command_runner.specs.Answer.{Answer, refusal_of, outputs_of, report_of}
+use Rattle.command_runner.specs.Conduct.{IsOfDelivery, AttemptsAs, WritesComplaint, Obeys}
+use Rattle.command_runner.specs.Delivery.{all_ended}
+use Rattle.command_runner.specs.Leaves.{Leaves, LeavesNothing, LeavesAll, Complains}
+use Rattle.command_runner.specs.declared.refusals.Refusal.{Refusal}
+use Rattle.command_runner.specs.declared.refusals.Refusal.TheVariants.{Usage, ReadFault, WriteFault, OutOfMemory, Input}
+use Rattle.command_runner.proofs.Sequences.{since_then}
+use Rattle.command_runner.proofs.Making.{at_once_complained, in_turn_complained}
+use Rattle.command_runner.proofs.Leaving.{leaves, complains, reports_last, reports_behind_ended}
 use Rattle.exit_status.specs.declared.cause.Cause.{Cause}
 use Rattle.exit_status.specs.declared.cause.Cause.TheVariants.{SpcLength, SpcSignature, TableLength, BrrLength, WavForm, EncodeSize, InputTooLong, AsmLine, CodeLength, CutList, Script}
 use Rattle.exit_status.specs.declared.status.Status.{Status}
@@ -22,7 +22,7 @@ use Rattle.exit_status.specs.Statuses.{status_of, answer_status, end_without_num
 use Rattle.exit_status.specs.Lines.{end_line, refusal_line}
 use Rattle.spcwave.specs.RunClauses as clause
 
--- a status without numbers tells its end
+-- a status without numbers shows its end
 pub plain_is : (r p : Option (Refusal Cause)) → end_without_numbers (status_of r) ≡ Some p → r ≡ p
 plain_is None p h = cc
 plain_is (Some Usage) p h = cc
@@ -96,7 +96,7 @@ calls command r x y z status is t c misread = record {
 
 -- the complaint changes no output
 pub makes : (command : Command) (line : List ℕ) (x y z : HostState) → clause.MakesOutputs command x y → WritesComplaint line y z → clause.MakesOutputs command x z
-makes (render file table wave options) line x y z made c = λ files told. at_once_complained (outputs_of (answer_of (render file table wave options) files)) line x y z (made files told) c
+makes (render file table wave options) line x y z made c = λ files known. at_once_complained (outputs_of (answer_of (render file table wave options) files)) line x y z (made files known) c
 makes (rip file prefix range) line x y z made c = in_turn_complained line x y z made c
 makes command line x y z made c = tt
 
@@ -109,7 +109,7 @@ module _ (command : Command) (r : Option (Refusal Cause)) (x z : HostState) (sta
   status_is p same = is ∙ ap status_of same
 
   truthful : (files : Files) → x.holds ≡ Some files → IsEnd r (answer_of command files)
-  truthful files told = (o.answered files told).truthful
+  truthful files known = (o.answered files known).truthful
 
   left : Leaves o.report o.outputs o.ended x z
   left = leaves o.report o.complaint o.outputs o.ended x z o.made
@@ -132,7 +132,7 @@ module _ (command : Command) (r : Option (Refusal Cause)) (x z : HostState) (sta
       (complains (end_line r) o.report o.complaint o.outputs o.ended x z o.made o.complains)
 
   line_is : (files : Files) → x.holds ≡ Some files → r ≡ unwrap_or (end_without_numbers status) (refusal_of (answer_of command files))
-  line_is files told = sym (ap (λ (s : Status). unwrap_or (end_without_numbers s) (refusal_of (answer_of command files))) is ∙ line_end r (answer_of command files) (truthful files told))
+  line_is files known = sym (ap (λ (s : Status). unwrap_or (end_without_numbers s) (refusal_of (answer_of command files))) is ∙ line_end r (answer_of command files) (truthful files known))
 
   refused_is : (p : Refusal Cause) → r ≡ Some p → p ≢ WriteFault → LeavesNothing x z
   refused_is p same other = nothing (λ none. some_none p (sym same ∙ none)) (λ write. other (inside p WriteFault (sym same ∙ write)))
@@ -145,17 +145,17 @@ module _ (command : Command) (r : Option (Refusal Cause)) (x z : HostState) (sta
 
   pub content : clause.Content command x z status
   content = record {
-    settled = λ files told same. let a = answer_of command files in
-        all a ((o.answered files told).settled (same_end r a (truthful files told) (sym is ∙ same)));
-    report_last = λ files told. reports_last (answer_of command files) o.report o.complaint o.outputs o.ended x z o.made (o.answered files told).report_last;
+    settled = λ files known same. let a = answer_of command files in
+        all a ((o.answered files known).settled (same_end r a (truthful files known) (sym is ∙ same)));
+    report_last = λ files known. reports_last (answer_of command files) o.report o.complaint o.outputs o.ended x z o.made (o.answered files known).report_last;
     ok = λ same. o.ok (end_of None statuses.Ok refl same);
-    complaint = λ files told. complains_of _ (line_is files told);
+    complaint = λ files known. complains_of _ (line_is files known);
   }
 
   pub reading : clause.ReadsInputs command x z status
   reading = record {
-    order = λ files told. in_order_same _ _ _ x z z (o.read files told).order (λ settled. (λ same. settled.0 (status_is _ same), λ same. settled.1 (status_is _ same))) refl;
-    all = λ files told ended. (o.read files told).all (delivered ended);
+    order = λ files known. in_order_same _ _ _ x z z (o.read files known).order (λ settled. (λ same. settled.0 (status_is _ same), λ same. settled.1 (status_is _ same))) refl;
+    all = λ files known ended. (o.read files known).all (delivered ended);
   }
     where
       delivered : (status ≡ statuses.Ok) ⊎ (status ≡ statuses.WriteFault) → IsOfDelivery r
@@ -172,10 +172,10 @@ module _ (command : Command) (r : Option (Refusal Cause)) (x z : HostState) (sta
   pub write_fault : clause.WriteFault command x z status
   write_fault = record {
     cause = λ same. o.causes.write (end_of (Some WriteFault) statuses.WriteFault refl same);
-    accepted = λ same files told. ap status_of ((o.answered files told).written (end_of (Some WriteFault) statuses.WriteFault refl same)).0;
-    leaves = λ same files told.
-        let written = (o.answered files told).written (end_of (Some WriteFault) statuses.WriteFault refl same) in
-        record { report = o.report; outputs = o.outputs; flags = o.ended; leaves = left; reported = written.1; begun = written.2; ended_whole = (o.answered files told).ended_whole; in_order = o.causes.in_order };
+    accepted = λ same files known. ap status_of ((o.answered files known).written (end_of (Some WriteFault) statuses.WriteFault refl same)).0;
+    leaves = λ same files known.
+        let written = (o.answered files known).written (end_of (Some WriteFault) statuses.WriteFault refl same) in
+        record { report = o.report; outputs = o.outputs; flags = o.ended; leaves = left; reported = written.1; begun = written.2; ended_whole = (o.answered files known).ended_whole; in_order = o.causes.in_order };
   }
 
   pub memory : clause.Memory command x z status
@@ -188,7 +188,7 @@ module _ (command : Command) (r : Option (Refusal Cause)) (x z : HostState) (sta
       other_usage e memory misread = cc
 
   pub is_truthful : clause.IsTruthful command x status
-  is_truthful files told = ends (truthful files told)
+  is_truthful files known = ends (truthful files known)
     where
       ends : IsEnd r (answer_of command files) → (status ≡ answer_status (answer_of command files)) ⊎ ((status ≡ statuses.ReadFault) ⊎ ((status ≡ statuses.WriteFault) ⊎ (status ≡ statuses.OutOfMemory)))
       ends (inl same) = inl (status_is _ same)
@@ -201,12 +201,12 @@ module _ (command : Command) (r : Option (Refusal Cause)) (x z : HostState) (sta
   either a (inr same) = inr (status_is _ same)
 
   pub completes_without_faults : clause.CompletesWithoutFaults command x z status
-  completes_without_faults files told none_rose = either (answer_of command files) (o.complete files told none_rose)
+  completes_without_faults files known none_rose = either (answer_of command files) (o.complete files known none_rose)
 
   pub completes_inputs : clause.CompletesInputs command x z status
   completes_inputs = record {
-    status_is = λ steady files told. of_three (answer_of command files) ((o.answered files told).steady steady);
-    no_fault = λ steady files told other. (o.answered files told).steady_inputs steady (λ is_read. other (ap status_of is_read));
+    status_is = λ steady files known. of_three (answer_of command files) ((o.answered files known).steady steady);
+    no_fault = λ steady files known other. (o.answered files known).steady_inputs steady (λ is_read. other (ap status_of is_read));
   }
     where
       of_three : (a : Answer Cause) → (r ≡ refusal_of a) ⊎ ((r ≡ Some WriteFault) ⊎ (r ≡ Some OutOfMemory)) → (status ≡ answer_status a) ⊎ ((status ≡ statuses.WriteFault) ⊎ (status ≡ statuses.OutOfMemory))
@@ -216,8 +216,8 @@ module _ (command : Command) (r : Option (Refusal Cause)) (x z : HostState) (sta
 
   pub completes_outputs : clause.CompletesOutputs command x z status
   completes_outputs = record {
-    status_is = λ rooms steady files told have fits. either (answer_of command files) ((o.answered files told).enough rooms steady have fits).0;
-    no_fault = λ rooms steady files told have fits. ((o.answered files told).enough rooms steady have fits).1;
+    status_is = λ rooms steady files known have fits. either (answer_of command files) ((o.answered files known).enough rooms steady have fits).0;
+    no_fault = λ rooms steady files known have fits. ((o.answered files known).enough rooms steady have fits).1;
   }
 
   -- on a steady host that has room for the line of the end
@@ -227,7 +227,7 @@ module _ (command : Command) (r : Option (Refusal Cause)) (x z : HostState) (sta
 
   pub completes_complaint : clause.CompletesComplaint command x z status
   completes_complaint = record {
-    no_fault = λ rooms steady files told. no_fault_with rooms steady _ (line_is files told);
+    no_fault = λ rooms steady files known. no_fault_with rooms steady _ (line_is files known);
     no_fault_plain = λ rooms steady end plain. no_fault_with rooms steady end (plain_is r end (ap end_without_numbers (sym is) ∙ plain));
   }
 

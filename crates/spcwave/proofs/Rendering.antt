@@ -3,12 +3,12 @@ use Rattle.std.proofs.Common.{◌≡◌, ℕ, ℤ, ◌+◌, Bool, true, false, L
 use Rattle.std.specs.Prelude.{is_ok}
 use Rattle.snd_host.specs.Calls.{Call}
 use Rattle.snd_host.specs.Host.{HostState}
-use Rattle.command_frame.specs.Answer.{Answer}
-use Rattle.command_frame.specs.NamedInputs.{TakesInOrder, held_of, second}
-use Rattle.command_frame.specs.OutputCalls.{at_once}
-use Rattle.command_frame.proofs.OutputBytes.{made_bytes}
-use Rattle.command_frame.specs.RunCalls.{DeliversAnswer, EndsBy}
-use Rattle.command_frame.specs.declared.refusals.Refusal.{Refusal}
+use Rattle.command_runner.specs.Answer.{Answer}
+use Rattle.command_runner.specs.NamedInputs.{TakesInOrder, held_of, second}
+use Rattle.command_runner.specs.OutputCalls.{at_once}
+use Rattle.command_runner.proofs.OutputBytes.{made_bytes}
+use Rattle.command_runner.specs.RunCalls.{DeliversAnswer, EndsBy}
+use Rattle.command_runner.specs.declared.refusals.Refusal.{Refusal}
 use Rattle.exit_status.specs.declared.cause.Cause.{Cause}
 use Rattle.exit_status.specs.declared.status.Status.TheVariants as statuses
 use Rattle.exit_status.specs.Statuses.{end_without_numbers}
@@ -29,18 +29,18 @@ module _ (file table wave : List ℕ) (options : Options) (m : ℕ) (made taken 
   -- an accepted table
   by_table : (file_bytes table_bytes : List ℕ) (spc : List ℕ) → file_in (Some file_bytes) ≡ Ok spc → (r : Result (List ℤ) (Refusal Cause)) → table_in (Some table_bytes) ≡ r → Delivered (answer_from r (rendering_answer wave options spc)) →
       WritesFrames options (m + 2) (file_bytes ∷ table_bytes ∷ []) made
-  by_table file_bytes table_bytes spc is (Ok weights) told d = record {
+  by_table file_bytes table_bytes spc is (Ok weights) known d = record {
     file_bytes = file_bytes;
     table_bytes = table_bytes;
     gave = refl;
     file = spc;
     table = weights;
     is_file = is;
-    is_table = told;
+    is_table = known;
     wrote = made_bytes m wave options.trace (rendered_wave spc weights (muted_voices options) (traced_voices options) (length_with options.samples spc))
         (rendered_trace spc weights (muted_voices options) (traced_voices options) (length_with options.samples spc)) _ made d;
   }
-  by_table file_bytes table_bytes spc is (Err why) told d = absurd d
+  by_table file_bytes table_bytes spc is (Err why) known d = absurd d
 
   -- the table comes after a file that was accepted
   after_file : (file_bytes : List ℕ) (given : List (List ℕ)) (calls : List Call) (spc : List ℕ) → file_in (Some file_bytes) ≡ Ok spc → TakesInOrder (table_input table ∷ []) given calls →

@@ -1,12 +1,12 @@
 -- What the commands answer, and which inputs they read.
 use Rattle.std.specs.Prelude.{List, [], ◌∷◌}
 use Rattle.snd_host.specs.Host.{Files}
-use Rattle.command_frame.specs.NamedInputs.{NamedInput, Held, first, held_by}
-use Rattle.command_frame.specs.OutputCalls.{Order, at_once, in_turn}
+use Rattle.command_runner.specs.NamedInputs.{NamedInput, Held, first, held_by}
+use Rattle.command_runner.specs.OutputCalls.{Order, at_once, in_turn}
 use Rattle.input_files.specs.Reading.{input_limit, wave_limit, input_up_to}
 use Rattle.input_files.specs.Inputs.{spc_input}
-use Rattle.command_frame.specs.Answer.{Answer, refused}
-use Rattle.command_frame.specs.declared.refusals.Refusal.TheVariants.{Usage}
+use Rattle.command_runner.specs.Answer.{Answer, refused}
+use Rattle.command_runner.specs.declared.refusals.Refusal.TheVariants.{Usage}
 use Rattle.exit_status.specs.declared.cause.Cause.{Cause}
 use Rattle.command_brr.specs.Brr.{brr_answer}
 use Rattle.command_encode.specs.Encode.{encode_answer}

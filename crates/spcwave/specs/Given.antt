@@ -1,8 +1,8 @@
 -- The edge of the program: what comes of what the command line gives.
 use Rattle.std.specs.Prelude.{◌≡◌, ℕ, Some, map, string_bytes}
 use Rattle.snd_host.specs.Host.{HostState}
-use Rattle.command_frame.specs.Conduct.{WritesComplaint}
-use Rattle.command_frame.specs.declared.refusals.Refusal.TheVariants.{OutOfMemory}
+use Rattle.command_runner.specs.Conduct.{WritesComplaint}
+use Rattle.command_runner.specs.declared.refusals.Refusal.TheVariants.{OutOfMemory}
 use Rattle.exit_status.specs.declared.status.Status.{Status}
 use Rattle.exit_status.specs.declared.status.Status.TheVariants as statuses
 use Rattle.exit_status.specs.Lines.{end_line}

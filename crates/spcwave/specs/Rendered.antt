@@ -1,7 +1,7 @@
 -- What a render wrote, by the bytes that its inputs gave.
 use Rattle.std.specs.Prelude.{◌≡◌, ℕ, ℤ, List, [], ◌∷◌, Some, Ok}
 use Rattle.snd_host.specs.Calls.{Call}
-use Rattle.command_frame.specs.OutputCalls.{bytes_to}
+use Rattle.command_runner.specs.OutputCalls.{bytes_to}
 use Rattle.input_files.specs.Inputs.{file_in, table_in}
 use Rattle.render_options.specs.Options.{Options}
 use Rattle.command_render.specs.Render.{length_with, muted_voices, traced_voices, rendered_wave}

@@ -65,23 +65,23 @@ fn lines_of_wave(alloc: Global, wave: &[u8]) -> Result<String, Fail> {
     lines_of(alloc, sums_of_wave(wave.get(HEADER_SIZE..).unwrap_or(&[])))
 }
 
-/// Whether a check tells these sums, and then the batches that a render of as many samples tells.
+/// Whether a check shows these sums, and then the batches that a render of as many samples shows.
 fn tells(checked: &[u8], lines: &[u8], played: &[u8]) -> bool {
     let front = b"samples 320000\n";
     match (checked.strip_prefix(front), played.strip_prefix(front)) {
-        (Some(told), Some(batches)) => told.strip_prefix(lines) == Some(batches),
+        (Some(known), Some(batches)) => known.strip_prefix(lines) == Some(batches),
         _ => false,
     }
 }
 
-/// Looks at a render of ten seconds, and at a check, which tells these sums.
+/// Looks at a render of ten seconds, and at a check, which shows these sums.
 fn look_at_check(rt: &impl Abort, played: &Outcome, checked: &Outcome, lines: &[u8]) {
     assert!(rt; played.status() == Status::Ok && played.first().len() == 1280044);
     assert!(rt; checked.status() == Status::Ok);
     assert!(rt; tells(checked.report(), lines, played.report()));
 }
 
-/// The demo file of 7, rendered for ten seconds, has the sums that the check tells, and is made in the same batches.
+/// The demo file of 7, rendered for ten seconds, has the sums that the check shows, and is made in the same batches.
 #[test]
 fn the_check_of_seven_is_that_of_its_frames(rt: HostRuntime) -> Result<(), Fail> {
     let played = render_seven(rt.alloc(), &["--samples", "320000"], OUTPUT_ROOM)?;

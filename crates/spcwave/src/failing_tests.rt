@@ -56,7 +56,7 @@ const SILENT_WAV: &[u8] =
     b"RIFF\x44\0\0\0WAVEfmt \x10\0\0\0\x01\0\x01\0\0\x7d\0\0\0\xfa\0\0\x02\0\x10\0data\x20\0\0\0\
     \0\0\0\0\0\0\0\0\0\0\0\0\0\0\0\0\0\0\0\0\0\0\0\0\0\0\0\0\0\0\0\0";
 
-/// The commands, but for those that only tell a text.
+/// The commands, but for those that only print a text.
 const COMMANDS: &[Command] = &[
     Command {
         words: &["brr", "BRR", "OUT"],
@@ -112,7 +112,7 @@ const COMMANDS: &[Command] = &[
         reads: 0,
         first: First::Bytes(b""),
         trace: "",
-        // what an independent implementation told
+        // what an independent implementation gave
         report: "samples 320000\nleft 49171252\nright -899585932\nmix 1010732692\n\
             batches 9983 register 4982 memory 4983 echo 0 full 17 events 0 end 1\n",
     },

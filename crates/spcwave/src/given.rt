@@ -6,7 +6,7 @@ ghost use Rattle.spcwave.specs.RunClauses.{HasFewOutputs};
 ghost use Rattle.spcwave.specs.Given.{EndsAsGiven, ExitsWith};
 
 use crate::run::run;
-use command_frame::{Refusal, complain};
+use command_runner::{Refusal, complain};
 use exit_status::{Cause, Status, status_for};
 use snd_host::Host;
 use std::alloc::Global;

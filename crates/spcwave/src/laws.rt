@@ -1,7 +1,7 @@
 // Laws of runs, from the calls that they make.
 ghost use Rattle.std.specs.Prelude.{◌≡◌, ◌+◌, ◌++◌, ℕ, List, length};
 ghost use Rattle.snd_host.specs.Host.{HostState};
-ghost use Rattle.command_frame.specs.PlainCalls.{OnlyLastFails};
+ghost use Rattle.command_runner.specs.PlainCalls.{OnlyLastFails};
 ghost use Rattle.render_options.specs.Options.{Options};
 ghost use Rattle.command_line.specs.Command.{Command, render};
 ghost use Rattle.exit_status.specs.declared.status.Status.{Status};
@@ -9,7 +9,7 @@ ghost use Rattle.exit_status.specs.declared.status.Status.TheVariants as statuse
 ghost use Rattle.spcwave.specs.Rendered.{WritesFrames};
 ghost use Rattle.spcwave.specs.RunClauses.{MakesCalls};
 
-/// Over every host, whatever it tells: where a render ends with 0, what it wrote to the WAV file joins to the frames of the run
+/// Over every host, whatever it shows: where a render ends with 0, what it wrote to the WAV file joins to the frames of the run
 /// that the bytes give which it read.
 pub fn a_render_writes_the_frames_of_what_it_read()
     ensures { (file table wave : List ℕ) (options : Options) (old new : HostState) (run : MakesCalls (render file table wave options) old new statuses.Ok) →

@@ -1,7 +1,7 @@
 // The whole program over any host.
 ghost use Rattle.std.specs.Prelude.{◌≡◌, ◌↔◌, map, string_bytes};
 ghost use Rattle.snd_host.specs.Host.{HostState};
-ghost use Rattle.command_frame.specs.Conduct.{AttemptsAs};
+ghost use Rattle.command_runner.specs.Conduct.{AttemptsAs};
 ghost use Rattle.command_line.specs.Command.{command_of, usage};
 ghost use Rattle.spcwave.specs.Answers.{answer_by, inputs_of, order_of};
 ghost use Rattle.spcwave.specs.RunClauses.{HasFewOutputs, MakesOutputs, IsRun};
@@ -13,12 +13,12 @@ use command_cuts::cuts;
 use command_demo::demo;
 use command_dis::dis;
 use command_encode::encode;
-use command_frame::{Refusal, complain};
 use command_help::{help, version};
 use command_info::info;
 use command_line::{Command, read_words};
 use command_render::render;
 use command_rip::rip;
+use command_runner::{Refusal, complain};
 use command_serve::serve;
 use exit_status::{Cause, Status, status_for};
 use snd_host::Host;

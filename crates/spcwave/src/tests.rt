@@ -270,9 +270,9 @@ fn a_session_has_so_many_pages(rt: HostRuntime) -> Result<(), Fail> {
 }
 
 /// Looks at the number that the process exits with, and at the complaint.
-fn look_at_exit(rt: &impl Abort, ended: u8, told: &[u8], code: u8, complaint: &str) {
+fn look_at_exit(rt: &impl Abort, ended: u8, known: &[u8], code: u8, complaint: &str) {
     assert!(rt; ended == code);
-    assert!(rt; told == complaint.as_bytes());
+    assert!(rt; known == complaint.as_bytes());
 }
 
 /// What is no text says no command, and with no memory for the words only its line is written.
@@ -282,13 +282,13 @@ fn what_is_given_instead_of_words(rt: HostRuntime) -> Result<(), Fail> {
         (Given::NoText, 1, "spcwave: words not understood\n"),
         (Given::NoMemory, 7, "spcwave: out of memory\n"),
     ] {
-        let (ended, told) = give(rt.alloc(), &given)?;
-        look_at_exit(&rt, ended, told.as_slice(), code, complaint);
+        let (ended, known) = give(rt.alloc(), &given)?;
+        look_at_exit(&rt, ended, known.as_slice(), code, complaint);
     }
     Ok(())
 }
 
-/// Looks at what the word that asks for help tells.
+/// Looks at what the word that asks for help shows.
 fn look_at_help(rt: &impl Abort, outcome: &Outcome, word: &str) {
     let begins = outcome
         .report()

@@ -1,5 +1,5 @@
 // SPC files and tables of weights.
-use command_frame::OutOfMemory;
+use command_runner::OutOfMemory;
 use std::alloc::Global;
 
 /// The place of the memory in a file.

@@ -2,7 +2,7 @@
 ghost use Rattle.std.specs.Prelude.{◌≡◌, [], IfOk};
 ghost use Rattle.snd_host.specs.Memory.{memory_state};
 
-use command_frame::{OutOfMemory, Refusal, complain};
+use command_runner::{OutOfMemory, Refusal, complain};
 use exit_status::{Cause, Status, status_for};
 use snd_host::{MemHost, OutFile};
 use std::alloc::Global;

@@ -1,5 +1,5 @@
 // Sound files of frames.
-use command_frame::OutOfMemory;
+use command_runner::OutOfMemory;
 use std::alloc::Global;
 
 /// The bytes of a sound file before its first frame.

@@ -1,9 +1,9 @@
 // The opening of a tune.
 ghost use Rattle.std.specs.Prelude.{◌≡◌, ◌≤◌, length, IfOk};
-ghost use Rattle.num_fix.specs.Limits.{most_frames};
+ghost use Rattle.num_fix.specs.Limits.{max_frames};
 ghost use Rattle.dsp_core.specs.DspChip.{dsp_chip, dsp_saving};
-ghost use Rattle.page_pool.specs.Pool.{most_pages};
-ghost use Rattle.cut_form.specs.Checkpoints.{fewest_pages};
+ghost use Rattle.page_pool.specs.Pool.{max_pages};
+ghost use Rattle.cut_form.specs.Checkpoints.{min_pages};
 ghost use Rattle.cut_form.specs.GrowingFrames.{AreOfRun};
 ghost use Rattle.cut_form.specs.CutBook.{opened_book};
 ghost use Rattle.cut_server.specs.Server.{opening, pages_at, frames_to, chip_at};
@@ -29,7 +29,7 @@ pub fn open_tune(
     samples: u32,
     mask: u8,
 ) -> Result<Render<Dsp>, OutOfMemory>
-    requires { samples ≤ most_frames }
+    requires { samples ≤ max_frames }
     ensures samples { IfOk result (λ render. render.samples ≡ samples) }
     ensures count { IfOk result (λ render. length (frames_to_come dsp_chip render) ≡ samples) }
     ensures frames { IfOk result (λ render. frames_to_come dsp_chip render ≡ tune_frames file.now table muted mask samples) }
@@ -49,8 +49,8 @@ pub fn open_server(
     muted: u8,
     pages: u32,
 ) -> Result<CutServer<Dsp>, OutOfMemory>
-    requires enough { fewest_pages ≤ pages }
-    requires few { pages ≤ most_pages }
+    requires enough { min_pages ≤ pages }
+    requires few { pages ≤ max_pages }
     ensures opening { IfOk result (λ server. opening dsp_chip dsp_saving server ≡ opened_tune file.now table muted 0) }
     ensures frames { IfOk result (λ server. frames_to dsp_chip dsp_saving server ≡ tune_frames file.now table muted 0) }
     ensures run { IfOk result (λ server. AreOfRun (frames_to dsp_chip dsp_saving server)) }

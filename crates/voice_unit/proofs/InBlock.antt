@@ -4,7 +4,7 @@ use Rattle.std.proofs.lemmas.Bool.{and_right}
 use Rattle.std.proofs.lemmas.Bool.Decides.{nat_tests}
 use Rattle.aram_core.specs.Memory.{byte_at}
 use Rattle.brr_decode.specs.Kept.{with_group}
-use Rattle.brr_decode.specs.Remembered.{byte_of, with_groups}
+use Rattle.brr_decode.specs.CachedBlocks.{byte_of, with_groups}
 use Rattle.voice_unit.specs.Voice.{is_silencing}
 use Rattle.voice_unit.specs.Row.{IsGroup, next_place, place_after, kept_row, groups_left, further, last_of, is_end, is_read_in, ends_in}
 use Rattle.voice_unit.specs.declared.row.Place.{Place}
@@ -78,19 +78,19 @@ module _ (memory : List ℕ) (loop_word : ℕ) (at : Place) (group : IsGroup at)
       ∙ rw one (sym (kept_row-more memory loop_word at samples d))
 
 -- while a voice is in its block no block ends
-pub marked-through : (memory : List ℕ) (loop_word : ℕ) (first at : Place) (points : ℕ → ℕ) (v d j e : ℕ) → IsGroup at → at ≡ place_after memory loop_word first d → e < groups_left at
-    → bit_if (marked memory loop_word first points v (d + e) j) v ≡ bit_if (marked memory loop_word first points v d j) v
-marked-through memory loop_word first at points v d j zero group there few = let same : d + 0 ≡ d = omega arith in rw same refl
-marked-through memory loop_word first at points v d j (suc e) group there few =
+pub marked-through : (memory : List ℕ) (loop_word : ℕ) (first at : Place) (phases : ℕ → ℕ) (v d j e : ℕ) → IsGroup at → at ≡ place_after memory loop_word first d → e < groups_left at
+    → bit_if (marked memory loop_word first phases v (d + e) j) v ≡ bit_if (marked memory loop_word first phases v d j) v
+marked-through memory loop_word first at phases v d j zero group there few = let same : d + 0 ≡ d = omega arith in rw same refl
+marked-through memory loop_word first at phases v d j (suc e) group there few =
     let next : d + suc e ≡ d + e + 1 = omega arith in
-    let before = marked-through memory loop_word first at points v d j e group there (omega (arith, few)) in
-    let more = marked-more memory loop_word first points v (d + e) j in
+    let before = marked-through memory loop_word first at phases v d j e group there (omega (arith, few)) in
+    let more = marked-more memory loop_word first phases v (d + e) j in
     let place : place_after memory loop_word first (d + e) ≡ further at e =
     place_after-add memory loop_word first d e ∙ ap (λ (p : Place). place_after memory loop_word p e) (sym there) ∙ placed memory loop_word at group e (omega (arith, few)) in
     let other : at.offset + 2 * e ≢ 7 = λ is. absurd (omega (arith, few, is)) in
     let test : (at.offset + 2 * e == 7) ≡ false = grind (arith, nat_tests, other) in
     let ended : is_end memory (place_after memory loop_word first (d + e)) ≡ false = rw (place, test) refl in
-    let none : (is_read_in points (d + e) j && is_end memory (place_after memory loop_word first (d + e))) ≡ false = rw ended (and_right (is_read_in points (d + e) j) false refl) in
+    let none : (is_read_in phases (d + e) j && is_end memory (place_after memory loop_word first (d + e))) ≡ false = rw ended (and_right (is_read_in phases (d + e) j) false refl) in
     let kept = rw none at more in
     rw next (sym kept ∙ omega (arith, before))
 
@@ -113,9 +113,9 @@ module _ (memory : List ℕ) (loop_word : ℕ) (first : Place) (d : ℕ) (at : P
       let len : 12 + 4 * (d + e) ≡ 12 + 4 * d + 4 * e = omega arith in
       rw len (made e (omega (arith, all, few)) ∙ (λ i. kept_row memory loop_word (there i) (was i) e) ∙ sym (kept_row-add memory loop_word first samples d e))
 
-  pub marks_with_block : (points : ℕ → ℕ) (v j old mid new : ℕ) → new ≡ mid + bit_if (ends_in memory (last_of at.block) points (d + left - 1) j) v
-      → mid ≡ old + bit_if (marked memory loop_word first points v d j) v → new ≡ old + bit_if (marked memory loop_word first points v (d + left) j) v
-  marks_with_block points v j old mid new made was =
+  pub marks_with_block : (phases : ℕ → ℕ) (v j old mid new : ℕ) → new ≡ mid + bit_if (ends_in memory (last_of at.block) phases (d + left - 1) j) v
+      → mid ≡ old + bit_if (marked memory loop_word first phases v d j) v → new ≡ old + bit_if (marked memory loop_word first phases v (d + left) j) v
+  marks_with_block phases v j old mid new made was =
       let some : 0 < left = omega (arith, all, left_some memory loop_word at group) in
       let e : ℕ = left - 1 in
       let number : d + left - 1 ≡ d + e = omega (arith, some) in
@@ -123,12 +123,12 @@ module _ (memory : List ℕ) (loop_word : ℕ) (first : Place) (d : ℕ) (at : P
       let seven : at.offset + 2 * e ≡ 7 = omega (arith, all, group.within, group.odd) in
       let last : place_after memory loop_word first (d + e) ≡ last_of at.block =
       within_block e (omega (arith, some)) ∙ ap (λ (offset : ℕ). record { block = at.block; offset = offset }) seven in
-      let through = marked-through memory loop_word first at points v d j e group there (omega (arith, all, some)) in
-      let more = marked-more memory loop_word first points v (d + e) j in
-      let ended : bit_if (is_read_in points (d + e) j && is_end memory (place_after memory loop_word first (d + e))) v
-      ≡ bit_if (ends_in memory (last_of at.block) points (d + e) j) v = ap (λ (p : Place). bit_if (is_read_in points (d + e) j && is_end memory p) v) last in
-      rw whole (made ∙ ap (λ (n : ℕ). mid + bit_if (ends_in memory (last_of at.block) points n j) v) number
-      ∙ ap (λ (x : ℕ). x + bit_if (ends_in memory (last_of at.block) points (d + e) j) v) was ∙ omega (arith, through, more, ended))
+      let through = marked-through memory loop_word first at phases v d j e group there (omega (arith, all, some)) in
+      let more = marked-more memory loop_word first phases v (d + e) j in
+      let ended : bit_if (is_read_in phases (d + e) j && is_end memory (place_after memory loop_word first (d + e))) v
+      ≡ bit_if (ends_in memory (last_of at.block) phases (d + e) j) v = ap (λ (p : Place). bit_if (is_read_in phases (d + e) j && is_end memory p) v) last in
+      rw whole (made ∙ ap (λ (n : ℕ). mid + bit_if (ends_in memory (last_of at.block) phases n j) v) number
+      ∙ ap (λ (x : ℕ). x + bit_if (ends_in memory (last_of at.block) phases (d + e) j) v) was ∙ omega (arith, through, more, ended))
 
   -- what is so of the headers of the groups so far is so of those of the block
   pub quiet_in_block : (reset silent : Bool) → ((e : ℕ) → e ≤ d → is_silencing reset (byte_at memory (place_after memory loop_word first e).block) ≡ true → silent ≡ true)

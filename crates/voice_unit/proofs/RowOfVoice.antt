@@ -12,7 +12,7 @@ use Rattle.voice_unit.specs.declared.interface.VoiceRegs.{VoiceRegs}
 use Rattle.voice_unit.specs.declared.interface.VoiceIn.{VoiceIn}
 use Rattle.voice_unit.specs.declared.row.Place.{Place}
 use Rattle.voice_unit.specs.Batch.{steps}
-use Rattle.voice_unit.specs.Row.{next_place, place_after, kept_row, next_point, groups_before, PlaysOn, row_of, place_of, StandsAt}
+use Rattle.voice_unit.specs.Row.{next_place, place_after, kept_row, next_phase, groups_before, PlaysOn, row_of, place_of, StandsAt}
 
 -- the end of a list doesn't look at what stands before its last samples
 from_end-append : (xs s : List ℤ) (k : ℕ) → k < length s → sample_from_end (xs ++ s) k ≡ sample_from_end s k
@@ -121,7 +121,7 @@ module _ (memory : List ℕ) (loop_word : ℕ) (first : Place) (samples : List �
       let four : 4 * d + 4 ≡ 4 * suc d = omega arith in
       rw (← four) (drop-with_group (kept_row memory loop_word first samples d) (4 * d) _ _ _ (omega (arith, whole, two)))
 
--- where a voice stands that has read so many groups: its samples are the last of the row, and its position tells its point in it
+-- where a voice stands that has read so many groups: its samples are the last of the row, and its position shows its phase in it
 record IsAt (memory : List ℕ) (loop_word : ℕ) (first : Place) (samples : List ℤ) (d total : ℕ) (voice : VoiceState) : Type 0 where
   last : voice.samples ≡ drop (4 * d) (kept_row memory loop_word first samples d)
   place : place_of voice ≡ place_after memory loop_word first d
@@ -152,10 +152,10 @@ next-same part voice header loop_word same = by (voice.offset == 7)
     by false = same voice.block (voice.offset + 2)
 
 -- one step more
-read_on : (memory : List ℕ) (loop_word : ℕ) (first : Place) (samples : List ℤ) (d point pitch : ℕ) (voice : VoiceState) → 2 ≤ length samples
-    → IsAt memory loop_word first samples d point voice → IsAt memory loop_word first samples (point / 0x4000) (next_point point pitch) (read_step memory loop_word pitch voice)
+read_on : (memory : List ℕ) (loop_word : ℕ) (first : Place) (samples : List ℤ) (d phase pitch : ℕ) (voice : VoiceState) → 2 ≤ length samples
+    → IsAt memory loop_word first samples d phase voice → IsAt memory loop_word first samples (phase / 0x4000) (next_phase phase pitch) (read_step memory loop_word pitch voice)
 unfolding after_pitch after_reading after_decoding place_after
-read_on memory loop_word first samples d point pitch voice two at = by (needs_group voice) refl
+read_on memory loop_word first samples d phase pitch voice two at = by (needs_group voice) refl
   where
     header : ℕ
     header = byte_at memory voice.block
@@ -173,15 +173,15 @@ read_on memory loop_word first samples d point pitch voice two at = by (needs_gr
         ∙ ap (λ (s : List ℤ). drop 4 (with_group s (byte_at memory there.block) (byte_at memory (there.block + there.offset)) (byte_at memory (there.block + there.offset + 1)))) at.last
         ∙ drop-kept_row memory loop_word first samples d two
 
-    -- what is left up to a point, where so many groups are read before it
-    part : voice.position % 0x4000 ≡ point % 0x4000
+    -- what is left up to a phase, where so many groups are read before it
+    part : voice.position % 0x4000 ≡ phase % 0x4000
     part = omega (arith, at.position)
 
     by : (b : Bool) → needs_group voice ≡ b
-        → IsAt memory loop_word first samples (point / 0x4000) (next_point point pitch) (after_pitch (if b then at_next_group decoded header loop_word else voice) pitch)
+        → IsAt memory loop_word first samples (phase / 0x4000) (next_phase phase pitch) (after_pitch (if b then at_next_group decoded header loop_word else voice) pitch)
     by true needs =
         let late : 0x4000 ≤ voice.position = grind (arith, nat_tests) in
-        let same : suc d ≡ point / 0x4000 = omega (arith, at.position, at.within, late) in
+        let same : suc d ≡ phase / 0x4000 = omega (arith, at.position, at.within, late) in
         rw (← same) record {
           last = next-same (λ (w : VoiceState). w.samples) decoded header loop_word (λ block offset. refl) ∙ newest;
           place = next-place memory loop_word decoded ∙ ap (next_place memory loop_word) at.place;
@@ -190,7 +190,7 @@ read_on memory loop_word first samples d point pitch voice two at = by (needs_gr
         }
     by false needs =
         let early : voice.position < 0x4000 = grind (arith, nat_tests) in
-        let same : d ≡ point / 0x4000 = omega (arith, at.position, early) in
+        let same : d ≡ phase / 0x4000 = omega (arith, at.position, early) in
         rw (← same) record { last = at.last; place = at.place; position = rw part (omega arith); within = omega arith }
 
 -- a step of a voice that plays on
@@ -218,15 +218,15 @@ still_none r i memory loop_word pitch counter voice none unkeyed = by (needs_gro
     by false = zero_left
 
 -- silencing, keys and the envelope leave it where it stands
-enveloped : {memory : List ℕ} {loop_word : ℕ} {first : Place} {samples : List ℤ} {d point : ℕ} (r : VoiceRegs) (i : VoiceIn) (header counter : ℕ) (voice : VoiceState)
-    → IsAt memory loop_word first samples d point voice → IsAt memory loop_word first samples d point (after_envelope voice r i header counter)
+enveloped : {memory : List ℕ} {loop_word : ℕ} {first : Place} {samples : List ℤ} {d phase : ℕ} (r : VoiceRegs) (i : VoiceIn) (header counter : ℕ) (voice : VoiceState)
+    → IsAt memory loop_word first samples d phase voice → IsAt memory loop_word first samples d phase (after_envelope voice r i header counter)
 unfolding after_envelope
 enveloped r i header counter voice at = record { last = at.last; place = at.place; position = at.position; within = at.within }
 
-module _ (r : VoiceRegs) (inputs : ℕ → VoiceIn) (dir n : ℕ) (memory : List ℕ) (counters points : ℕ → ℕ) (voice : VoiceState) (plays : PlaysOn r inputs dir n points voice) where
+module _ (r : VoiceRegs) (inputs : ℕ → VoiceIn) (dir n : ℕ) (memory : List ℕ) (counters phases : ℕ → ℕ) (voice : VoiceState) (plays : PlaysOn r inputs dir n phases voice) where
   at_step : (j : ℕ) → j ≤ n
       → ((steps r inputs memory counters voice j).delay ≡ 0)
-      × IsAt memory (loop_word dir r.srcn memory) (place_of voice) voice.samples (groups_before points j) (points j) (steps r inputs memory counters voice j)
+      × IsAt memory (loop_word dir r.srcn memory) (place_of voice) voice.samples (groups_before phases j) (phases j) (steps r inputs memory counters voice j)
   unfolding kept_row place_after groups_before steps
   at_step zero few = (plays.delay, record { last = refl; place = refl; position = omega (arith, plays.stands.first); within = plays.position })
   at_step (suc j) few =
@@ -238,9 +238,9 @@ module _ (r : VoiceRegs) (inputs : ℕ → VoiceIn) (dir n : ℕ) (memory : List
       step_reads r (inputs j) memory (counters j) now before.0
       ∙ ap (λ (at : ℕ). read_step memory (loop_word at r.srcn memory) pitch after) (plays.same_dir j (omega (arith, few))) in
       let one : suc j ≡ j + 1 = omega arith in
-      let further : points (suc j) ≡ next_point (points j) pitch = ap points one ∙ plays.stands.next j (omega (arith, few)) in
+      let further : phases (suc j) ≡ next_phase (phases j) pitch = ap phases one ∙ plays.stands.next j (omega (arith, few)) in
       let here = enveloped r (inputs j) (byte_at memory now.block) (counters j) now before.1 in
-      let read = read_on memory (loop_word dir r.srcn memory) (place_of voice) voice.samples (groups_before points j) (points j) pitch after
+      let read = read_on memory (loop_word dir r.srcn memory) (place_of voice) voice.samples (groups_before phases j) (phases j) pitch after
       (omega (arith, plays.twelve)) here in (
         ap (λ (w : VoiceState). w.delay) same ∙ still_none r (inputs j) memory (loop_word dir r.srcn memory) pitch (counters j) now before.0 (plays.unkeyed j (omega (arith, few))),
         rw (same, further) read,
@@ -274,17 +274,17 @@ plays_at memory loop_word first samples d total more voice table twelve at =
     ) refl
 
 -- what a voice plays in sample j is read off the row
-pub plays_row : (r : VoiceRegs) (inputs : ℕ → VoiceIn) (dir n : ℕ) (memory : List ℕ) (counters points : ℕ → ℕ) (voice : VoiceState) (table : List ℤ) (j more : ℕ)
-    → PlaysOn r inputs dir n points voice → j ≤ n
+pub plays_row : (r : VoiceRegs) (inputs : ℕ → VoiceIn) (dir n : ℕ) (memory : List ℕ) (counters phases : ℕ → ℕ) (voice : VoiceState) (table : List ℤ) (j more : ℕ)
+    → PlaysOn r inputs dir n phases voice → j ≤ n
     → interpolation table (steps r inputs memory counters voice j).samples (steps r inputs memory counters voice j).position
-    ≡ interpolation table (row_of r dir memory voice (more + groups_before points j)) (points j)
-plays_row r inputs dir n memory counters points voice table j more plays few =
-    plays_at memory (loop_word dir r.srcn memory) (place_of voice) voice.samples (groups_before points j) (points j) more
-    (steps r inputs memory counters voice j) table plays.twelve (at_step r inputs dir n memory counters points voice plays j few).1
+    ≡ interpolation table (row_of r dir memory voice (more + groups_before phases j)) (phases j)
+plays_row r inputs dir n memory counters phases voice table j more plays few =
+    plays_at memory (loop_word dir r.srcn memory) (place_of voice) voice.samples (groups_before phases j) (phases j) more
+    (steps r inputs memory counters voice j) table plays.twelve (at_step r inputs dir n memory counters phases voice plays j few).1
 
 -- where it stands then
-pub reads_row : (r : VoiceRegs) (inputs : ℕ → VoiceIn) (dir n : ℕ) (memory : List ℕ) (counters points : ℕ → ℕ) (voice : VoiceState) (j : ℕ)
-    → PlaysOn r inputs dir n points voice → j ≤ n → StandsAt r dir memory voice (groups_before points j) (points j) (steps r inputs memory counters voice j)
-reads_row r inputs dir n memory counters points voice j plays few =
-    let at = at_step r inputs dir n memory counters points voice plays j few in
+pub reads_row : (r : VoiceRegs) (inputs : ℕ → VoiceIn) (dir n : ℕ) (memory : List ℕ) (counters phases : ℕ → ℕ) (voice : VoiceState) (j : ℕ)
+    → PlaysOn r inputs dir n phases voice → j ≤ n → StandsAt r dir memory voice (groups_before phases j) (phases j) (steps r inputs memory counters voice j)
+reads_row r inputs dir n memory counters phases voice j plays few =
+    let at = at_step r inputs dir n memory counters phases voice plays j few in
     record { delay = at.0; last = at.1.last; place = at.1.place; position = at.1.position; within = at.1.within }

@@ -3,10 +3,10 @@ use Rattle.std.proofs.Common.{◌≡◌, ℕ, zero, suc, ◌*◌, ◌+◌, ◌-�
 use Rattle.std.proofs.Math.Nat.{add-suc}
 use Rattle.rate_clock.specs.Counter.{counter_at}
 use Rattle.envelope.specs.Envelope.{EnvelopeState, step_target, after_target, envelope_step}
-use Rattle.envelope.specs.Rest.{RestsFor}
+use Rattle.envelope.specs.UntilChange.{StaysFor}
 use Rattle.envelope.specs.Steps.{envelope_after}
 use Rattle.envelope.specs.declared.Mode.TheVariants.{Release}
-use Rattle.voice_unit.specs.Calm.{IsSilent}
+use Rattle.voice_unit.specs.FreeEnvelope.{IsSilent}
 use Rattle.voice_unit.specs.Levels.{envelope_from}
 use Rattle.voice_unit.specs.declared.interface.VoiceRegs.{VoiceRegs}
 
@@ -30,11 +30,11 @@ envelope_from-add e r k j (suc i) =
     ∙ ap (λ (m : ℕ). envelope_step (envelope_from (envelope_from e r k j) r (k + j) i) r.adsr1 r.adsr2 r.gain (counter_at m)) far)
 
 -- an envelope that rests is left as it is
-pub after_rest : (e : EnvelopeState) (r : VoiceRegs) (k rest j : ℕ) → RestsFor e r.adsr1 r.adsr2 r.gain k rest → j ≤ rest → envelope_from e r k j ≡ e
+pub without_change : (e : EnvelopeState) (r : VoiceRegs) (k samples_until_change j : ℕ) → StaysFor e r.adsr1 r.adsr2 r.gain k samples_until_change → j ≤ samples_until_change → envelope_from e r k j ≡ e
 unfolding envelope_from envelope_after
-after_rest e r k rest zero rests few = refl
-after_rest e r k rest (suc j) rests few =
-    ap (λ (x : EnvelopeState). envelope_step x r.adsr1 r.adsr2 r.gain (counter_at (k + j))) (after_rest e r k rest j rests (omega (arith, few)))
+without_change e r k samples_until_change zero rests few = refl
+without_change e r k samples_until_change (suc j) rests few =
+    ap (λ (x : EnvelopeState). envelope_step x r.adsr1 r.adsr2 r.gain (counter_at (k + j))) (without_change e r k samples_until_change j rests (omega (arith, few)))
     ∙ rests j (omega (arith, few))
 
 -- each step of a released envelope takes 8 from its level

@@ -1,4 +1,4 @@
--- A voice over a batch of samples. A row is told by the sample's place in the batch, from 0 on.
+-- A voice over a batch of samples. A row is given by the sample's place in the batch, from 0 on.
 use Rattle.std.specs.Prelude.{ℕ, zero, suc, List, ℤ, false, get_or, slice_index}
 use Rattle.num_fix.specs.Arithmetic.{has_bit}
 use Rattle.num_fix.specs.SignedWords.{number_at}

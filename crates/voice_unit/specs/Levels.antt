@@ -1,4 +1,4 @@
--- The levels of the samples of a stretch.
+-- The levels of the samples of a span.
 use Rattle.std.specs.Prelude.{ℕ, ◌+◌}
 use Rattle.rate_clock.specs.Counter.{counter_at}
 use Rattle.envelope.specs.Envelope.{EnvelopeState}

@@ -1,4 +1,4 @@
--- The outputs of a stretch of samples, over a row of kept samples or over noise.
+-- The outputs of a span of samples, over a row of kept samples or over noise.
 use Rattle.std.specs.Prelude.{◌≡◌, ℕ, ◌<◌, ◌*◌, Bool, List, ℤ, pos, Option, Some, None, slice_get, if◌then◌else◌}
 use Rattle.num_fix.specs.Arithmetic.{scaled, wrap16, clear_bit0}
 use Rattle.num_fix.specs.SignedWords.{number_at}
@@ -33,13 +33,13 @@ abbrev pub sounding_at : (level : ℕ) → (sample : ℤ) → ℤ
 sounding_at level sample = clear_bit0 (scaled sample (pos level) 11)
 
 -- what a sample that stands so far in a row of kept samples puts out at a level
-abbrev pub out_over_row : (table row : List ℤ) → (point level : ℕ) → ℤ
-out_over_row table row point level = sounding_at level (interpolation table row point)
+abbrev pub out_over_row : (table row : List ℤ) → (phase level : ℕ) → ℤ
+out_over_row table row phase level = sounding_at level (interpolation table row phase)
 
--- what a sample of a stretch puts out: noise at a level where the voice plays that, else what stands in the row
-abbrev pub out_in_stretch : (noisy : Bool) → (noise : ℕ) → (table row : List ℤ) → (point level : ℕ) → ℤ
-out_in_stretch noisy noise table row point level =
-    if noisy then sounding_at level (wrap16 (pos (2 * noise))) else out_over_row table row point level
+-- what a sample of a span puts out: noise at a level where the voice plays that, else what stands in the row
+abbrev pub out_in_span : (noisy : Bool) → (noise : ℕ) → (table row : List ℤ) → (phase level : ℕ) → ℤ
+out_in_span noisy noise table row phase level =
+    if noisy then sounding_at level (wrap16 (pos (2 * noise))) else out_over_row table row phase level
 
 -- each number of a row, as many as are put at once, is the factor of a level
 abbrev pub AreFactorsOfLevel : (level : ℕ) → List ℤ → Type 0

@@ -1,4 +1,4 @@
--- A sample in which nothing but its blocks, its registers and the voice before tells what a voice plays.
+-- A sample in which nothing but its blocks, its registers and the voice before shows what a voice plays.
 use Rattle.std.specs.Prelude.{◌≡◌, ℕ, ◌<◌, ◌≤◌, ◌⊎◌, false, slice_index}
 use Rattle.num_fix.specs.Arithmetic.{has_bit}
 use Rattle.voice_unit.specs.Voice.{is_keyed, is_modulated}
@@ -12,8 +12,8 @@ abbrev pub IsPlain : (own : VoiceView) → (rows : BatchRows) → (j : ℕ) → 
 IsPlain own rows j = has_bit (slice_index rows.kon j) own.voice ≡ false
 
 -- sample j is one of those that are known to be plain
-abbrev pub IsToldPlain : PlainSamples → (j : ℕ) → Type 0
-IsToldPlain known j = (j < known.before) ⊎ (known.from ≤ j)
+abbrev pub IsKnownPlain : PlainSamples → (j : ℕ) → Type 0
+IsKnownPlain known j = (j < known.before) ⊎ (known.from ≤ j)
 
 -- The voice of a row isn't keyed; what it reads of the registers that all voices share is the row's.
 pub record PlaysPlainly (own : VoiceView) (i : VoiceIn) : Type 0 where

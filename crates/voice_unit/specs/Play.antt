@@ -57,12 +57,12 @@ pub record IsPlayed (lane : Lane) (v n : ℕ) (before after : List ℕ) (outs : 
   pub others : (j : ℕ) → n ≤ j → slice_index after j ≡ slice_index before j
 
 -- in each sample from one up to another a voice plays plainly
-abbrev pub Glides : (own : VoiceView) → (lane : Lane) → (from end : ℕ) → Type 0
-Glides own lane from end = (j : ℕ) → from ≤ j → j < end → PlaysPlainly own (lane.inputs j)
+abbrev pub RendersSpan : (own : VoiceView) → (lane : Lane) → (from end : ℕ) → Type 0
+RendersSpan own lane from end = (j : ℕ) → from ≤ j → j < end → PlaysPlainly own (lane.inputs j)
 
--- A voice can glide from one sample up to another: its lane is read so, it plays plainly between them, and what comes before is played.
-pub record CanGlide (reads : VoiceReads) (pitches : List ℕ) (lane : Lane) (from end : ℕ) (before ends : List ℕ) (outs : List ℤ)
+-- A span can be rendered from one sample up to another: its lane is read so, it plays plainly between them, and what comes before is played.
+pub record CanRenderSpan (reads : VoiceReads) (pitches : List ℕ) (lane : Lane) (from end : ℕ) (before ends : List ℕ) (outs : List ℤ)
     (voice : VoiceState) : Type 0 where
   pub over : IsLaneOver reads pitches lane
-  pub plainly : Glides reads.seen lane from end
+  pub plainly : RendersSpan reads.seen lane from end
   pub played : IsPlayed lane reads.seen.voice from before ends outs voice

@@ -11,7 +11,7 @@ use gauss_table::GaussTable;
 use num_fix::{BATCH_SIZE, has_bit};
 use rate_clock::RateClock;
 
-/// What a voice sees of the registers that all voices share, and its number, which tells its bits in them.
+/// What a voice sees of the registers that all voices share, and its number, which shows its bits in them.
 #[derive(Clone, Copy)]
 pub struct VoiceView {
     /// The number of the voice, 0 to 7.

@@ -1,4 +1,4 @@
-//! The levels of the samples of a stretch, as a row.
+//! The levels of the samples of a span, as a row.
 
 ghost use Rattle.std.specs.Prelude.{◌≡◌, ◌<◌, ◌≤◌, ◌+◌, ◌-◌, ◌*◌, ℕ, slice_index};
 ghost use Rattle.rate_clock.specs.Counter.{counter_at};
@@ -11,7 +11,7 @@ use envelope::{Envelope, Mode, RELEASE_FALL};
 use num_fix::BATCH_SIZE;
 use rate_clock::RateClock;
 
-/// The clock in sample `at` of a batch. Most stretches begin with its first one.
+/// The clock in sample `at` of a batch. Most spans begin with its first one.
 pub(crate) fn clock_in(reads: &VoiceReads, at: u8) -> RateClock
     ensures { (k : ℕ) → reads.now.clock ≡ counter_at k → result ≡ counter_at (k + at) }
 {
@@ -81,19 +81,21 @@ fn put_steady(
     let regs = &reads.regs;
     let level = envelope.level();
     let clock = clock_in(reads, at);
-    let rest = envelope.rest(regs.adsr1, regs.adsr2, regs.gain, &clock);
-    if u16::from(n) <= rest {
+    let samples_until_change = envelope.samples_until_change(
+        regs.adsr1, regs.adsr2, regs.gain, &clock,
+    );
+    if u16::from(n) <= samples_until_change {
         put_level(levels, at, n, level);
         return n;
     }
-    let last = rest as u8;
+    let last = samples_until_change as u8;
     put_level(levels, at, last + 1, level);
     let then = clock.after_samples(last);
     envelope.step(regs.adsr1, regs.adsr2, regs.gain, &then);
     last + 1
 }
 
-/// Puts the level at which each of n samples sounds, from sample `at` on, and steps an envelope over them. It stands apart, as most stretches have one level.
+/// Puts the level at which each of n samples sounds, from sample `at` on, and steps an envelope over them. Out of line, as most spans have one level.
 #[inline(never)]
 pub(crate) fn put_levels(
     levels: &mut [u16; BATCH_SIZE],

@@ -3,10 +3,8 @@
 
 mod all_voices;
 mod batch;
-mod calm;
-mod course;
 mod directory;
-mod glide;
+mod free_envelope;
 mod interface;
 mod laws;
 mod level;
@@ -14,10 +12,12 @@ mod levels;
 mod out_row;
 mod plain;
 mod play;
+mod render_span;
 mod row;
 mod short_sounding;
 mod sounding;
-mod track;
+mod span_phases;
+mod span_plan;
 mod voice;
 mod workspace;
 

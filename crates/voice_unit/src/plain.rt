@@ -2,7 +2,7 @@
 
 ghost use Rattle.std.specs.Prelude.{◌≡◌, ◌<◌, ◌≤◌, ℕ, false, slice_index};
 ghost use Rattle.num_fix.specs.Arithmetic.{has_bit};
-ghost use Rattle.voice_unit.specs.Plain.{IsPlain, IsToldPlain};
+ghost use Rattle.voice_unit.specs.Plain.{IsPlain, IsKnownPlain};
 
 use crate::all_voices::BatchRows;
 use crate::batch::VoiceView;
@@ -59,7 +59,7 @@ impl PlainSamples {
         requires { j ≤ n }
         ensures from { j ≤ result }
         ensures to { result ≤ n }
-        ensures plain { (i : ℕ) → j ≤ i → i < result → IsToldPlain self.now i }
+        ensures plain { (i : ℕ) → j ≤ i → i < result → IsKnownPlain self.now i }
     {
         if self.from <= j {
             n
@@ -75,7 +75,7 @@ impl VoiceView {
     /// The samples in which the voice plays plainly: those before and after its key on.
     pub(crate) fn plain_samples(&self, rows: &BatchRows) -> PlainSamples
         requires { self.now.voice < 8 }
-        ensures { (j : ℕ) → j < BATCH_SIZE → IsToldPlain result j → IsPlain self.now rows.now j }
+        ensures { (j : ℕ) → j < BATCH_SIZE → IsKnownPlain result j → IsPlain self.now rows.now j }
     {
         if !is_ever_taken(rows, self.voice) {
             return PlainSamples {

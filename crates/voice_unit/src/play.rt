@@ -7,9 +7,9 @@ ghost use Rattle.voice_unit.specs.OneSample.{IsStep};
 ghost use Rattle.voice_unit.specs.Play.{IsPlayed, answer_at, lane_of};
 
 use crate::batch::{PlayedRows, VoiceReads};
-use crate::glide::Glided;
 use crate::interface::{VoiceIn, VoiceOut, is_keyed};
 use crate::level::high_byte;
+use crate::render_span::RenderedSpan;
 use crate::voice::Voice;
 use crate::workspace::Workspace;
 use num_fix::BATCH_SIZE;
@@ -37,7 +37,7 @@ fn is_marked(ends: &[u8; BATCH_SIZE], j: u8, voice: u8) -> bool
 }
 
 impl Voice {
-    /// A whole step in sample `j` of a batch. It stands apart, so that the loop over stretches is short.
+    /// A whole step in sample `j` of a batch. Out of line, so that the loop over spans is short.
     #[inline(never)]
     fn play_sample(&mut self, j: u8, reads: &VoiceReads, input: &VoiceIn) -> VoiceOut
         requires pitch { reads.now.regs.pitch < 0x4000 }
@@ -49,7 +49,7 @@ impl Voice {
         self.step(&reads.regs, input, reads.memory, reads.table, &clock)
     }
 
-    /// Makes n samples, or all of them but the last, where the voice doesn't glide over that.
+    /// Makes n samples, or all of them but the last, where no span has that.
     fn play_row(
         &mut self,
         n: u8,
@@ -57,7 +57,7 @@ impl Voice {
         previous: &[i16; BATCH_SIZE],
         work: &mut Workspace,
         made: &mut PlayedRows,
-    ) -> Glided
+    ) -> RenderedSpan
         requires some { 0 < n }
         requires few { n ≤ BATCH_SIZE }
         requires voice { reads.now.seen.voice < 8 }
@@ -76,7 +76,7 @@ impl Voice {
     {
         let last = n - 1;
         if last == 0 {
-            return Glided { at: 0, level: 0 };
+            return RenderedSpan { at: 0, level: 0 };
         }
         // a copy, so that what is the same in all samples is worked out once
         let seen = reads.seen;
@@ -85,10 +85,10 @@ impl Voice {
         let mut j = 0;
         'samples: while j < last {
             let end = plain.end_from(j, n);
-            let glided = self.glide(j, end, reads, work, made);
-            let to = glided.at;
+            let rendered = self.render_span(j, end, reads, work, made);
+            let to = rendered.at;
             if last <= to {
-                return glided;
+                return rendered;
             }
             let place = usize::from(to);
             let input = seen.input(reads.rows, previous[place], to);
@@ -97,11 +97,11 @@ impl Voice {
             mark_ended(&mut made.ends, to, answer.ended, seen.voice);
             j = to + 1;
         }
-        Glided { at: j, level: 0 }
+        RenderedSpan { at: j, level: 0 }
     }
 
-    /// What sample `j` gave, the last over which the voice glided, at a level.
-    fn glided_answer(
+    /// What sample `j` gave, the last of a span, at a level.
+    fn span_answer(
         &self,
         j: u8,
         level: u16,
@@ -153,10 +153,10 @@ impl Voice {
         ensures lower { (j : ℕ) → j < BATCH_SIZE → slice_index made.new.ends j < 2 ^ (reads.now.seen.voice + 1) }
         ensures last { (k : ℕ) → reads.now.clock ≡ counter_at k → result ≡ answer_at (lane_of reads.now previous.now self.old k) (n - 1) }
     {
-        let glided = self.play_row(n, reads, previous, work, made);
+        let rendered = self.play_row(n, reads, previous, work, made);
         let last = n - 1;
-        if glided.at == n {
-            return self.glided_answer(last, glided.level, reads, previous, made);
+        if rendered.at == n {
+            return self.span_answer(last, rendered.level, reads, previous, made);
         }
         let place = usize::from(last);
         let input = reads.seen.input(reads.rows, previous[place], last);

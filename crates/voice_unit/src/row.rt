@@ -1,13 +1,13 @@
-//! The row of kept samples that a voice reads in a stretch of samples.
+//! The row of kept samples that a voice reads in a span of samples.
 
 ghost use Rattle.std.specs.Prelude.{◌≡◌, ◌<◌, ◌≤◌, ◌+◌, ◌*◌, ℕ, length, slice_index, take};
 ghost use Rattle.aram_core.specs.Memory.{byte_at};
 ghost use Rattle.brr_decode.specs.Header.{next_block};
-ghost use Rattle.brr_decode.specs.Remembered.{byte_of};
+ghost use Rattle.brr_decode.specs.CachedBlocks.{byte_of};
 ghost use Rattle.voice_unit.specs.Row.{IsGroup, groups_left, further, kept_row};
 
 use aram_core::Aram;
-use brr_decode::{BlockMemory, has_end};
+use brr_decode::{BrrCache, has_end};
 use num_fix::BATCH_SIZE;
 
 /// The samples of a row of kept samples: the twelve of a voice, four of each group that a batch reads at most, and those of the three groups that can
@@ -64,7 +64,7 @@ fn eight_bytes(bytes: &[u8], at: usize) -> u64
     low + 0x100000000 * high
 }
 
-/// The digits of a block that goes from one page into the next. It stands apart, since few do.
+/// The digits of a block that goes from one page into the next. Out of line, since few do.
 #[inline(never)]
 fn parted_digits(at: u16, memory: &Aram) -> u64
     ensures { (k : ℕ) → k < 8 → byte_of result k ≡ byte_at memory.now (at + k) }
@@ -101,7 +101,7 @@ pub(crate) fn read_rest(
     at: &Place,
     header: u8,
     memory: &Aram,
-    blocks: &mut BlockMemory,
+    blocks: &mut BrrCache,
 )
     requires group { IsGroup at.now }
     requires header { header ≡ byte_at memory.now at.now.block }

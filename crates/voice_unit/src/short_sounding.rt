@@ -1,18 +1,18 @@
-//! The outputs of a stretch of samples by products of 16 bits, eight at a time, where each weight of the table is from 0 to 2,047.
+//! The outputs of a span of samples by products of 16 bits, eight at a time, where each weight of the table is from 0 to 2,047.
 
 ghost use Rattle.std.specs.Prelude.{◌≡◌, ◌≢◌, ◌<◌, ◌≤◌, ◌+◌, ◌*◌, ◌%◌, ℕ, List, ℤ, pos, nat_le, slice_index};
 ghost use Rattle.num_fix.specs.Arithmetic.{scaled};
 ghost use Rattle.num_fix.specs.SignedWords.{number_at};
 ghost use Rattle.gauss_table.specs.Factors.{AreFactors, factor_of};
 ghost use Rattle.gauss_table.specs.Interpolation.{mix_of};
-ghost use Rattle.voice_unit.specs.Track.{IsTrack, point_at};
+ghost use Rattle.voice_unit.specs.SpanPhases.{AreSpanPhases, phase_at};
 ghost use Rattle.voice_unit.specs.Voice.{interpolation};
 ghost use Rattle.voice_unit.specs.OutsOverRow.{AreFactorsOfLevel, short_mixed_at, sounding_at};
 
 use crate::level::LEVELS;
 use crate::row::ROW_SIZE;
-use crate::sounding::POINT_END;
-use crate::track::{POINTS, Track};
+use crate::sounding::PHASE_END;
+use crate::span_phases::{PHASES, SpanPhases};
 use gauss_table::{
     Factors, Products, ShortTaps, factor_of, product_by_factor, product_by_high_factor,
     product_by_low_factor,
@@ -28,15 +28,15 @@ pub(crate) const LAST_OF_EIGHT: u8 = (BATCH_SIZE - AT_ONCE) as u8;
 /// Half of the level that would be a whole.
 pub(crate) const HALF_LEVEL: u16 = 0x400;
 
-/// What four samples give at a point of a row of kept samples, in 65,536ths of a sample.
+/// What four samples give at a phase of a row of kept samples, in 65,536ths of a sample.
 #[tactic(auto, unfolding(crate::specs::Voice::interpolation))]
-fn products_at(row: &[i16; ROW_SIZE], point: u32, factors: &[Factors; 256]) -> Products
-    requires { point < POINT_END }
-    ensures { (table : List ℤ) (place : ℕ) → AreFactors table factors.now → point ≡ 0x10 * place
+fn products_at(row: &[i16; ROW_SIZE], phase: u32, factors: &[Factors; 256]) -> Products
+    requires { phase < PHASE_END }
+    ensures { (table : List ℤ) (place : ℕ) → AreFactors table factors.now → phase ≡ 0x10 * place
         → mix_of result.oldest result.older result.newer result.newest ≡ interpolation table row.now place }
 {
-    let m = (point / 0x10000) as usize;
-    let i = (point / 0x100 % 0x100) as u8;
+    let m = (phase / 0x10000) as usize;
+    let i = (phase / 0x100 % 0x100) as u8;
     Products::at(factors, i, row[m], row[m + 1], row[m + 2], row[m + 3])
 }
 
@@ -49,33 +49,33 @@ fn put_products(taps: &mut [ShortTaps; BATCH_SIZE], j: usize, products: &Product
     taps[j].put(products);
 }
 
-/// Puts the taps of two samples, which stand at these points. Two have eight products, which are made at once.
+/// Puts the taps of two samples, which stand at these phases. Two have eight products, which are made at once.
 /// Inlined, so that the loops over it keep their numbers in registers.
 #[inline(always)]
 fn put_two(
     taps: &mut [ShortTaps; BATCH_SIZE],
     j: usize,
     row: &[i16; ROW_SIZE],
-    point: u32,
+    phase: u32,
     next: u32,
     factors: &[Factors; 256],
 )
     requires few { j + 2 ≤ BATCH_SIZE }
-    requires point { point < POINT_END }
-    requires next { next < POINT_END }
-    ensures first { (table : List ℤ) (place : ℕ) → AreFactors table factors.now → point ≡ 0x10 * place
+    requires phase { phase < PHASE_END }
+    requires next { next < PHASE_END }
+    ensures first { (table : List ℤ) (place : ℕ) → AreFactors table factors.now → phase ≡ 0x10 * place
         → short_mixed_at taps.new j ≡ interpolation table row.now place }
     ensures second { (table : List ℤ) (place : ℕ) → AreFactors table factors.now → next ≡ 0x10 * place
         → short_mixed_at taps.new (j + 1) ≡ interpolation table row.now place }
     ensures before { (i : ℕ) → i < j → short_mixed_at taps.new i ≡ short_mixed_at taps.old i }
 {
-    let first = products_at(row, point, factors);
+    let first = products_at(row, phase, factors);
     let second = products_at(row, next, factors);
     put_products(taps, j, &first);
     put_products(taps, j + 1, &second);
 }
 
-/// The taps of n samples, from a position in a row on, four at a time. It stands apart, so that its loop keeps its numbers in registers.
+/// The taps of n samples, from a position in a row on, four at a time. Out of line, so that its loop keeps its numbers in registers.
 #[inline(never)]
 fn take_short_taps(
     taps: &mut [ShortTaps; BATCH_SIZE],
@@ -92,33 +92,33 @@ fn take_short_taps(
         → short_mixed_at taps.new j ≡ interpolation table row.now (position + j * pitch) }
 {
     let step = 0x10 * u32::from(pitch);
-    let mut point = 0x10 * u32::from(position);
+    let mut phase = 0x10 * u32::from(position);
     for c in 0..(usize::from(n) + 3) / 4 {
-        put_two(taps, 4 * c, row, point, point + step, factors);
+        put_two(taps, 4 * c, row, phase, phase + step, factors);
         put_two(
             taps,
             4 * c + 2,
             row,
-            point + 2 * step,
-            point + 3 * step,
+            phase + 2 * step,
+            phase + 3 * step,
             factors,
         );
-        point += 4 * step;
+        phase += 4 * step;
     }
 }
 
-/// The taps of n samples that stand so far in a row, each at its own point, two at a time: of an odd number the sample after the last has its own too.
+/// The taps of n samples that stand so far in a row, each at its own phase, two at a time: of an odd number the sample after the last has its own too.
 fn take_short_modulated_taps(
     taps: &mut [ShortTaps; BATCH_SIZE],
     n: u8,
     row: &[i16; ROW_SIZE],
     factors: &[Factors; 256],
-    points: &[u32; POINTS],
+    phases: &[u32; PHASES],
 )
     requires few { n ≤ BATCH_SIZE }
-    requires within { (j : ℕ) → j ≤ n → 0x10 * slice_index points.now j < POINT_END }
+    requires within { (j : ℕ) → j ≤ n → 0x10 * slice_index phases.now j < PHASE_END }
     ensures { (table : List ℤ) → AreFactors table factors.now → (j : ℕ) → j < n
-        → short_mixed_at taps.new j ≡ interpolation table row.now (slice_index points.now j) }
+        → short_mixed_at taps.new j ≡ interpolation table row.now (slice_index phases.now j) }
 {
     for c in 0..(usize::from(n) + 1) / 2 {
         let j = 2 * c;
@@ -126,32 +126,39 @@ fn take_short_modulated_taps(
             taps,
             j,
             row,
-            0x10 * points[j],
-            0x10 * points[j + 1],
+            0x10 * phases[j],
+            0x10 * phases[j + 1],
             factors,
         );
     }
 }
 
-/// The taps of n samples of a track.
-#[tactic(auto, unfolding(crate::specs::Track::point_at))]
-pub(crate) fn take_short_track_taps(
+/// The taps of n samples of a span.
+#[tactic(auto, unfolding(crate::specs::SpanPhases::phase_at))]
+pub(crate) fn take_short_span_taps(
     taps: &mut [ShortTaps; BATCH_SIZE],
     n: u8,
     row: &[i16; ROW_SIZE],
     factors: &[Factors; 256],
-    track: &Track,
+    span_phases: &SpanPhases,
 )
     requires few { n ≤ BATCH_SIZE }
-    requires track { IsTrack track.now n }
+    requires span_phases { AreSpanPhases span_phases.now n }
     ensures { (table : List ℤ) → AreFactors table factors.now → (j : ℕ) → j < n
-        → short_mixed_at taps.new j ≡ interpolation table row.now (point_at track.now j) }
+        → short_mixed_at taps.new j ≡ interpolation table row.now (phase_at span_phases.now j) }
 {
-    if track.modulated {
-        take_short_modulated_taps(taps, n, row, factors, track.points);
+    if span_phases.modulated {
+        take_short_modulated_taps(taps, n, row, factors, span_phases.phases);
         return;
     }
-    take_short_taps(taps, n, row, factors, track.position, track.pitch);
+    take_short_taps(
+        taps,
+        n,
+        row,
+        factors,
+        span_phases.position,
+        span_phases.pitch,
+    );
 }
 
 /// The factor of a level eight times, so that 16-bit numbers meet 16-bit numbers.
@@ -231,7 +238,7 @@ pub(crate) fn put_short(
     }
 }
 
-/// The outputs of eight samples from one on, each at its own level. After the levels of a stretch any numbers may stand in the row, which are brought down
+/// The outputs of eight samples from one on, each at its own level. After the levels of a span any numbers may stand in the row, which are brought down
 /// to levels.
 fn eight_by_levels(
     taps: &[ShortTaps; BATCH_SIZE],

@@ -1,4 +1,4 @@
-//! The outputs of a stretch of samples, over a row of kept samples or over noise.
+//! The outputs of a span of samples, over a row of kept samples or over noise.
 
 ghost use Rattle.std.specs.Prelude.{◌≡◌, ◌<◌, ◌≤◌, ◌+◌, ◌-◌, ◌*◌, ◌%◌, ℕ, List, ℤ, pos, slice_index};
 ghost use Rattle.num_fix.specs.Arithmetic.{wrap16};
@@ -6,39 +6,39 @@ ghost use Rattle.num_fix.specs.SignedWords.{number_at};
 ghost use Rattle.gauss_table.specs.Interpolation.{mix_of};
 ghost use Rattle.gauss_table.specs.Quads.{AreQuads};
 ghost use Rattle.rate_clock.specs.Counter.{counter_at};
-ghost use Rattle.voice_unit.specs.Course.{IsCourse};
+ghost use Rattle.voice_unit.specs.SpanPlan.{IsSpanPlan};
 ghost use Rattle.voice_unit.specs.Levels.{envelope_from, level_in};
 ghost use Rattle.voice_unit.specs.Voice.{interpolation};
-ghost use Rattle.voice_unit.specs.Track.{IsTrack, point_at};
-ghost use Rattle.voice_unit.specs.OutsOverRow.{mixed_at, sounding_at, out_in_stretch};
+ghost use Rattle.voice_unit.specs.SpanPhases.{AreSpanPhases, phase_at};
+ghost use Rattle.voice_unit.specs.OutsOverRow.{mixed_at, sounding_at, out_in_span};
 
 use crate::batch::VoiceReads;
-use crate::course::Course;
 use crate::level::{LEVELS, at_level};
 use crate::levels::{clock_in, put_levels};
 use crate::row::ROW_SIZE;
 use crate::short_sounding::{
     HALF_LEVEL, LAST_OF_EIGHT, factors_of_level, put_short, put_short_by_levels,
-    take_short_track_taps,
+    take_short_span_taps,
 };
-use crate::track::{POINTS, Track};
-use crate::workspace::StretchRows;
+use crate::span_phases::{PHASES, SpanPhases};
+use crate::span_plan::SpanPlan;
+use crate::workspace::SpanRows;
 use envelope::Envelope;
 use gauss_table::{GaussTable, Quad, Taps};
 use num_fix::{BATCH_SIZE, clear_bit0, wrap16};
 
-/// The point of the last four samples of a row, in 65,536ths of a sample.
-pub(crate) const POINT_END: u32 = 0x10000 * (ROW_SIZE as u32 - 4);
+/// The phase of the last four samples of a row, in 65,536ths of a sample.
+pub(crate) const PHASE_END: u32 = 0x10000 * (ROW_SIZE as u32 - 4);
 
-/// The taps at a point of a row of kept samples, in 65,536ths of a sample, so that the place of the weights is a byte of it.
+/// The taps at a phase of a row of kept samples, in 65,536ths of a sample, so that the place of the weights is a byte of it.
 #[tactic(auto, unfolding(crate::specs::Voice::interpolation))]
-fn taps_at(row: &[i16; ROW_SIZE], point: u32, quads: &[Quad; 256]) -> Taps
-    requires { point < POINT_END }
-    ensures { (table : List ℤ) (place : ℕ) → AreQuads table quads.now → point ≡ 0x10 * place
+fn taps_at(row: &[i16; ROW_SIZE], phase: u32, quads: &[Quad; 256]) -> Taps
+    requires { phase < PHASE_END }
+    ensures { (table : List ℤ) (place : ℕ) → AreQuads table quads.now → phase ≡ 0x10 * place
         → mix_of result.oldest result.older result.newer result.newest ≡ interpolation table row.now place }
 {
-    let m = (point / 0x10000) as usize;
-    let i = (point / 0x100 % 0x100) as u8;
+    let m = (phase / 0x10000) as usize;
+    let i = (phase / 0x100 % 0x100) as u8;
     Taps::at(quads, i, row[m], row[m + 1], row[m + 2], row[m + 3])
 }
 
@@ -58,51 +58,51 @@ fn take_taps(
 {
     let quads = table.quads();
     let step = 0x10 * u32::from(pitch);
-    let mut point = 0x10 * u32::from(position);
+    let mut phase = 0x10 * u32::from(position);
     for j in 0..usize::from(n) {
-        taps[j] = taps_at(row, point, quads);
-        point += step;
+        taps[j] = taps_at(row, phase, quads);
+        phase += step;
     }
 }
 
-/// The taps of n samples that stand so far in a row. It stands apart, since few voices are modulated.
+/// The taps of n samples that stand so far in a row. Out of line, since few voices are modulated.
 #[inline(never)]
 fn take_modulated_taps(
     taps: &mut [Taps; BATCH_SIZE],
     n: u8,
     row: &[i16; ROW_SIZE],
     table: &GaussTable,
-    points: &[u32; POINTS],
+    phases: &[u32; PHASES],
 )
     requires few { n ≤ BATCH_SIZE }
-    requires within { (j : ℕ) → j < n → 0x10 * slice_index points.now j < POINT_END }
-    ensures { (j : ℕ) → j < n → mixed_at taps.new j ≡ interpolation table.now row.now (slice_index points.now j) }
+    requires within { (j : ℕ) → j < n → 0x10 * slice_index phases.now j < PHASE_END }
+    ensures { (j : ℕ) → j < n → mixed_at taps.new j ≡ interpolation table.now row.now (slice_index phases.now j) }
 {
     let quads = table.quads();
     for j in 0..usize::from(n) {
-        taps[j] = taps_at(row, 0x10 * points[j], quads);
+        taps[j] = taps_at(row, 0x10 * phases[j], quads);
     }
 }
 
-/// The taps of n samples of a track.
+/// The taps of n samples of a span.
 #[inline(always)]
-#[tactic(auto, unfolding(crate::specs::Track::point_at))]
-fn take_track_taps(
+#[tactic(auto, unfolding(crate::specs::SpanPhases::phase_at))]
+fn take_span_taps(
     taps: &mut [Taps; BATCH_SIZE],
     n: u8,
     row: &[i16; ROW_SIZE],
     table: &GaussTable,
-    track: &Track,
+    span_phases: &SpanPhases,
 )
     requires few { n ≤ BATCH_SIZE }
-    requires track { IsTrack track.now n }
-    ensures { (j : ℕ) → j < n → mixed_at taps.new j ≡ interpolation table.now row.now (point_at track.now j) }
+    requires span_phases { AreSpanPhases span_phases.now n }
+    ensures { (j : ℕ) → j < n → mixed_at taps.new j ≡ interpolation table.now row.now (phase_at span_phases.now j) }
 {
-    if track.modulated {
-        take_modulated_taps(taps, n, row, table, track.points);
+    if span_phases.modulated {
+        take_modulated_taps(taps, n, row, table, span_phases.phases);
         return;
     }
-    take_taps(taps, n, row, table, track.position, track.pitch);
+    take_taps(taps, n, row, table, span_phases.position, span_phases.pitch);
 }
 
 /// The outputs of n samples at a level.
@@ -118,7 +118,7 @@ fn put_at_level(outs: &mut [i16; BATCH_SIZE], at: u8, n: u8, taps: &[Taps; BATCH
     }
 }
 
-/// The outputs of n samples of noise at a level. It stands apart, since few voices play noise.
+/// The outputs of n samples of noise at a level. Out of line, since few voices play noise.
 #[inline(never)]
 fn put_noise(outs: &mut [i16; BATCH_SIZE], at: u8, n: u8, noise: &[u16; BATCH_SIZE], level: u16)
     requires few { at + n ≤ BATCH_SIZE }
@@ -134,7 +134,7 @@ fn put_noise(outs: &mut [i16; BATCH_SIZE], at: u8, n: u8, noise: &[u16; BATCH_SI
 }
 
 /// The outputs of n samples, each at its own level. That each is a level is made plain by what is left of it below LEVELS, so that no condition is wanted.
-/// It stands apart, since few stretches are so.
+/// Out of line, since few spans are so.
 #[inline(never)]
 fn put_by_levels(
     outs: &mut [i16; BATCH_SIZE],
@@ -156,7 +156,7 @@ fn put_by_levels(
 }
 
 /// The outputs of n samples of noise, each at its own level. That each is a level is made plain by what is left of it below LEVELS, so that no condition is
-/// wanted. It stands apart, since few voices play noise.
+/// wanted. Out of line, since few voices play noise.
 #[inline(never)]
 fn put_noise_by_levels(
     outs: &mut [i16; BATCH_SIZE],
@@ -194,7 +194,7 @@ fn put_silence(outs: &mut [i16; BATCH_SIZE], at: u8, n: u8)
     }
 }
 
-/// What a stretch that sounded leaves: its envelope, and the level of its last sample.
+/// What a span that sounded leaves: its envelope, and the level of its last sample.
 #[derive(Clone, Copy)]
 pub(crate) struct Sounded {
     /// The envelope after the last sample.
@@ -203,23 +203,23 @@ pub(crate) struct Sounded {
     pub level: u16,
 }
 
-impl<'a> Course<'a> {
+impl<'a> SpanPlan<'a> {
     /// The outputs of n samples from sample `at` on at the level of the envelope, over a row of kept samples or over noise. At level 0 they are 0, whatever
     /// the samples are.
     fn sound_at_level(
         &self,
         outs: &mut [i16; BATCH_SIZE],
-        rows: &mut StretchRows,
+        rows: &mut SpanRows,
         at: u8,
         n: u8,
         row: &[i16; ROW_SIZE],
         reads: &VoiceReads,
     )
-        requires course { IsCourse self.now n }
+        requires span_plan { IsSpanPlan self.now n }
         requires few { at + n ≤ BATCH_SIZE }
         ensures outs { (j : ℕ) → j < n
-            → number_at outs.new (at + j) ≡ out_in_stretch self.now.noisy (slice_index reads.now.rows.now.noise (at + j))
-            reads.now.table.now row.now (point_at self.now.track j) self.now.envelope.level }
+            → number_at outs.new (at + j) ≡ out_in_span self.now.noisy (slice_index reads.now.rows.now.noise (at + j))
+            reads.now.table.now row.now (phase_at self.now.span_phases j) self.now.envelope.level }
         ensures before { (i : ℕ) → i < at → number_at outs.new i ≡ number_at outs.old i }
     {
         let level = self.envelope.level();
@@ -233,35 +233,35 @@ impl<'a> Course<'a> {
         }
         match reads.table.factors() {
             Some(factors) if at <= LAST_OF_EIGHT => {
-                take_short_track_taps(&mut rows.short_taps, n, row, factors, &self.track);
+                take_short_span_taps(&mut rows.short_taps, n, row, factors, &self.span_phases);
                 let factors = factors_of_level(level);
                 let loud = HALF_LEVEL <= level;
                 put_short(outs, at, n, &rows.short_taps, &factors, loud);
             }
             _ => {
-                take_track_taps(&mut rows.taps, n, row, reads.table, &self.track);
+                take_span_taps(&mut rows.taps, n, row, reads.table, &self.span_phases);
                 put_at_level(outs, at, n, &rows.taps, level);
             }
         }
     }
 
-    /// The outputs of n samples from sample `at` on, each at its own level, over a row of kept samples or over noise. It stands apart, since most stretches
+    /// The outputs of n samples from sample `at` on, each at its own level, over a row of kept samples or over noise. Out of line, since most spans
     /// have one level.
     #[inline(never)]
     fn sound_by_levels(
         &self,
         outs: &mut [i16; BATCH_SIZE],
-        rows: &mut StretchRows,
+        rows: &mut SpanRows,
         at: u8,
         n: u8,
         row: &[i16; ROW_SIZE],
         reads: &VoiceReads,
     )
-        requires course { IsCourse self.now n }
+        requires span_plan { IsSpanPlan self.now n }
         requires few { at + n ≤ BATCH_SIZE }
         ensures outs { (j : ℕ) → j < n
-            → number_at outs.new (at + j) ≡ out_in_stretch self.now.noisy (slice_index reads.now.rows.now.noise (at + j))
-            reads.now.table.now row.now (point_at self.now.track j) (slice_index rows.old.levels (at + j) % LEVELS) }
+            → number_at outs.new (at + j) ≡ out_in_span self.now.noisy (slice_index reads.now.rows.now.noise (at + j))
+            reads.now.table.now row.now (phase_at self.now.span_phases j) (slice_index rows.old.levels (at + j) % LEVELS) }
         ensures before { (i : ℕ) → i < at → number_at outs.new i ≡ number_at outs.old i }
     {
         if self.noisy {
@@ -270,11 +270,11 @@ impl<'a> Course<'a> {
         }
         match reads.table.factors() {
             Some(factors) if at <= LAST_OF_EIGHT => {
-                take_short_track_taps(&mut rows.short_taps, n, row, factors, &self.track);
+                take_short_span_taps(&mut rows.short_taps, n, row, factors, &self.span_phases);
                 put_short_by_levels(outs, at, n, &rows.short_taps, &rows.levels);
             }
             _ => {
-                take_track_taps(&mut rows.taps, n, row, reads.table, &self.track);
+                take_span_taps(&mut rows.taps, n, row, reads.table, &self.span_phases);
                 put_by_levels(outs, at, n, &rows.taps, &rows.levels);
             }
         }
@@ -285,18 +285,18 @@ impl<'a> Course<'a> {
     pub(crate) fn sound(
         &self,
         outs: &mut [i16; BATCH_SIZE],
-        rows: &mut StretchRows,
+        rows: &mut SpanRows,
         at: u8,
         n: u8,
         row: &[i16; ROW_SIZE],
         reads: &VoiceReads,
     ) -> Sounded
-        requires course { IsCourse self.now n }
+        requires span_plan { IsSpanPlan self.now n }
         requires some { 0 < n }
         requires few { at + n ≤ BATCH_SIZE }
         ensures outs { (k : ℕ) → reads.now.clock ≡ counter_at k → (j : ℕ) → j < n
-            → number_at outs.new (at + j) ≡ out_in_stretch self.now.noisy (slice_index reads.now.rows.now.noise (at + j))
-            reads.now.table.now row.now (point_at self.now.track j) (level_in self.now.envelope reads.now.regs (k + at) j) }
+            → number_at outs.new (at + j) ≡ out_in_span self.now.noisy (slice_index reads.now.rows.now.noise (at + j))
+            reads.now.table.now row.now (phase_at self.now.span_phases j) (level_in self.now.envelope reads.now.regs (k + at) j) }
         ensures before { (i : ℕ) → i < at → number_at outs.new i ≡ number_at outs.old i }
         ensures envelope { (k : ℕ) → reads.now.clock ≡ counter_at k
             → result.envelope ≡ envelope_from self.now.envelope reads.now.regs (k + at) n }
@@ -307,8 +307,10 @@ impl<'a> Course<'a> {
         let regs = &reads.regs;
         let mut envelope = self.envelope;
         let clock = clock_in(reads, at);
-        let rest = envelope.rest(regs.adsr1, regs.adsr2, regs.gain, &clock);
-        if u16::from(n) <= rest {
+        let samples_until_change = envelope.samples_until_change(
+            regs.adsr1, regs.adsr2, regs.gain, &clock,
+        );
+        if u16::from(n) <= samples_until_change {
             self.sound_at_level(outs, rows, at, n, row, reads);
             return Sounded {
                 envelope,

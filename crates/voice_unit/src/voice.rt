@@ -8,8 +8,8 @@ ghost use Rattle.voice_unit.specs.Directory.{start_word, loop_word};
 ghost use Rattle.voice_unit.specs.Row.{IsGroup, place_of};
 ghost use Rattle.voice_unit.specs.Voice.{silent_voice, step_pitch, step_header, after_delay, interpolation, source_sample, output, needs_group, after_envelope, is_ended, after_decoding, at_next_group, after_reading, after_pitch, voice_step, voice_answer};
 
-use crate::calm::is_silencing;
 use crate::directory::{loop_word, start_word};
+use crate::free_envelope::is_silencing;
 use crate::interface::{VoiceIn, VoiceOut, VoiceRegs, is_keyed};
 use crate::level::{at_level, high_byte, pitch_of};
 use crate::row::{Place, ROW_SIZE};
@@ -197,7 +197,7 @@ impl Voice {
         }
         self.delay -= 1;
         self.position = if self.delay % 4 == 0 { 0 } else { 0x4000 };
-        self.envelope.hold();
+        self.envelope.reset_for_key_on();
     }
 
     /// The interpolation of the four samples at the position.
@@ -300,7 +300,7 @@ impl Voice {
         }
     }
 
-    /// Reads a group, where the position has come to it, and tells whether that ends a block that has its end bit.
+    /// Reads a group, where the position has come to it, and returns whether that ends a block that has its end bit.
     /// Inlined, since most samples of a batch read none.
     #[inline(always)]
     #[tactic(auto, unfolding(crate::specs::Voice::after_reading))]

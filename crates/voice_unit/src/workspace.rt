@@ -1,15 +1,15 @@
 //! What a voice works with over a batch.
 
 use crate::row::ROW_SIZE;
-use crate::track::POINTS;
-use brr_decode::{BlockMemory, OutOfMemory};
+use crate::span_phases::PHASES;
+use brr_decode::{BrrCache, OutOfMemory};
 use gauss_table::{GaussTable, ShortTaps, Taps};
 use num_fix::BATCH_SIZE;
 use std::alloc::Global;
 
-/// The rows of a stretch: the taps of its samples, those of any table and those of tables whose weights are from 0 to 2,047, and their levels.
+/// The rows of a span: the taps of its samples, those of any table and those of tables whose weights are from 0 to 2,047, and their levels.
 #[derive(Clone, Copy)]
-pub(crate) struct StretchRows {
+pub(crate) struct SpanRows {
     pub taps: [Taps; BATCH_SIZE],
     pub short_taps: [ShortTaps; BATCH_SIZE],
     pub levels: [u16; BATCH_SIZE],
@@ -21,12 +21,12 @@ pub(crate) struct StretchRows {
 pub struct Workspace {
     /// Twelve samples, those of 64 groups, and the rest of the last one's block.
     pub(crate) row: [i16; ROW_SIZE],
-    pub(crate) rows: StretchRows,
+    pub(crate) rows: SpanRows,
     /// The pitches of a voice in a batch, where they are modulated.
     pub(crate) pitches: [u16; BATCH_SIZE],
     /// How far the samples of such a voice stand in the row, and the one after them.
-    pub(crate) points: [u32; POINTS],
-    pub(crate) blocks: BlockMemory,
+    pub(crate) phases: [u32; PHASES],
+    pub(crate) blocks: BrrCache,
 }
 
 impl Workspace {
@@ -35,14 +35,14 @@ impl Workspace {
     pub fn new(alloc: Global, table: &GaussTable) -> Result<Workspace, OutOfMemory> {
         Ok(Workspace {
             row: [0; ROW_SIZE],
-            rows: StretchRows {
+            rows: SpanRows {
                 taps: [Taps::at(table.quads(), 0, 0, 0, 0, 0); BATCH_SIZE],
                 short_taps: [ShortTaps::silent(); BATCH_SIZE],
                 levels: [0; BATCH_SIZE],
             },
             pitches: [0; BATCH_SIZE],
-            points: [0; POINTS],
-            blocks: BlockMemory::new(alloc)?,
+            phases: [0; PHASES],
+            blocks: BrrCache::new(alloc)?,
         })
     }
 }

@@ -3,7 +3,7 @@ use Rattle.std.specs.Prelude.{ℕ, zero, suc, ◌+◌, ◌%◌, Bool, List, [], 
 use Rattle.std.specs.Str.{bytes_eq}
 use Rattle.byteorder.specs.Endian.{little_number}
 
--- A chunk: its name, the place of its name in the file, the size that it tells, and its body as far as the file has it.
+-- A chunk: its name, the place of its name in the file, the size that it gives, and its body as far as the file has it.
 pub record Chunk : Type 0 where
   pub name : List ℕ
   pub place : ℕ

@@ -5,7 +5,7 @@ ghost use Rattle.wav_form.specs.Seen.{chunk_of};
 
 use byteorder::{ByteOrder, LittleEndian};
 
-/// A chunk at the front of bytes: its name, the place of its name in the file, the size that it tells, and its body as far as
+/// A chunk at the front of bytes: its name, the place of its name in the file, the size that it gives, and its body as far as
 /// the file has it.
 #[derive(Clone, Copy)]
 pub struct Chunk<'a> {

@@ -23,7 +23,7 @@ fn samples(alloc: Global, bytes: &[u8]) -> Result<Vec<i16>, OutOfMemory>
     Ok(samples)
 }
 
-/// Whether the body of a `fmt ` chunk tells PCM with one channel of 16 bits.
+/// Whether the body of a `fmt ` chunk shows PCM with one channel of 16 bits.
 fn is_mono_format(body: &[u8]) -> bool
     ensures { result ≡ is_mono_format body.now }
 {
@@ -40,7 +40,7 @@ fn is_wave(bytes: &[u8]) -> bool
     bytes.len() >= 12 && bytes[..4].starts_with(b"RIFF") && bytes[8..12].starts_with(b"WAVE")
 }
 
-/// Passes over a chunk that isn't one of samples, and tells whether a format was seen by then.
+/// Passes over a chunk that isn't one of samples, and returns whether a format was seen by then.
 fn pass_over(chunk: Chunk<'_>, has_format: bool) -> Result<bool, WavRefusal>
     requires { is_named (codes "data") (chunk_of chunk) ≡ false }
     ensures passes { PassesOver has_format (chunk_of chunk.entry) result }

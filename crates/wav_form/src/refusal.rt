@@ -14,7 +14,7 @@ pub enum WavRefusal {
     /// The end, or a `data` chunk, comes before any `fmt ` chunk.
     #[error("no format")]
     NoFormat,
-    /// The first `fmt ` chunk doesn't tell PCM with one channel of 16 bits.
+    /// The first `fmt ` chunk doesn't show PCM with one channel of 16 bits.
     #[error("not mono 16-bit PCM")]
     Format,
     /// The end comes before any `data` chunk.

@@ -1,6 +1,6 @@
 // What a file that is written begins with, and its frames.
 ghost use Rattle.std.specs.Prelude.{◌≡◌, ◌≤◌};
-ghost use Rattle.num_fix.specs.Limits.{most_frames};
+ghost use Rattle.num_fix.specs.Limits.{max_frames};
 ghost use Rattle.wav_form.specs.Wave.{header_of, frame_bytes};
 
 use byteorder::{ByteOrder, LittleEndian};
@@ -14,7 +14,7 @@ pub const HEADER_SIZE: usize = 44;
 pub fn header(channels: u16, frames: u32) -> [u8; HEADER_SIZE]
     requires some { 1 ≤ channels }
     requires mono_or_stereo { channels ≤ 2 }
-    requires limit { frames ≤ most_frames }
+    requires limit { frames ≤ max_frames }
     ensures { result ≡ header_of channels frames }
 {
     let frame_size = 2 * u32::from(channels);

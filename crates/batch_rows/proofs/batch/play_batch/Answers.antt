@@ -31,7 +31,7 @@ returns c =
     let ran = echo_is k n s c.args.memory.now c.play_voices.new.voices c.play_voices.new.made.last c.play_voices.new.made.rows.ends c.play_voices.new.made.sums played in
     let eight : length s.hidden.voices ≡ 8 = rw voices at c.play_voices.ensures.eight in
     let long : ENDX < length s.registers = search rules in
-    let bits = bits_are k n s c.args.memory.now c.play_voices.new.voices c.play_voices.new.made.last c.play_voices.new.made.rows.ends c.play_voices.new.made.sums played c.step_keys-rows.result eight c.step_keys-rows.ensures.rows c.step_keys-rows.ensures.taken in
+    let bits = bits_are k n s c.args.memory.now c.play_voices.new.voices c.play_voices.new.made.last c.play_voices.new.made.rows.ends c.play_voices.new.made.sums played c.step_keys-rows.result eight c.step_keys-rows.ensures.rows c.step_keys-rows.ensures.kon_latched in
     let endx : c.endx_of_batch-endx.result ≡ endx_after (answers k s c.args.memory.now) (slice_index s.registers ENDX) n = rw c.step_keys-rows.ensures.registers at (c.endx_of_batch-endx.ensures (answers k s c.args.memory.now) bits) in
     let registers = registers_are k n s c.args.memory.now c.play_voices.new.voices c.play_voices.new.made.last c.play_voices.new.made.rows.ends c.play_voices.new.made.sums played c.endx_of_batch-endx.result
     c.requires.batch.some eight long endx in

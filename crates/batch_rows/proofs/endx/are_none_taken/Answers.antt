@@ -6,5 +6,5 @@ use Rattle.batch_rows.proofs.endx.are_none_taken.Goals as goal
 pub returns : goal.returns
 returns c quiet j below =
     let none : c.args.rows.now.any ≡ 0 = grind (arith, nat_tests, quiet) in
-    let taken : HasBitsOf c.args.rows.now.kon c.args.rows.now.any = c.args.rows.now.has_bits in
-    omega (arith, none, taken.most j below)
+    let kon_latched : HasBitsOf c.args.rows.now.kon c.args.rows.now.any = c.args.rows.now.has_bits in
+    omega (arith, none, kon_latched.most j below)

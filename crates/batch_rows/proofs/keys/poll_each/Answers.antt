@@ -15,17 +15,17 @@ returns-clause-state c =
     c.loop-j.invariant.state
     ∙ (rw made (all_keys c.args.number c.args.state.now c.keyed_samples-keyed.result c.args.n c.keyed_samples-keyed.ensures.few (c.keyed_samples-keyed.ensures.rest c.args.number)))
 
-pub returns-clause-taken : goal.returns-clause-taken
-returns-clause-taken c j below = elim (cases_lt j c.loop-j.j) [
-  | inl early ↦ c.loop-j.invariant.taken j early
+pub returns-clause-kon_latched : goal.returns-clause-kon_latched
+returns-clause-kon_latched c j below = elim (cases_lt j c.loop-j.j) [
+  | inl early ↦ c.loop-j.invariant.kon_latched j early
   | inr late ↦ (let none = c.keyed_samples-keyed.ensures.rest c.args.number (omega (arith, late, below)) in
-      c.loop-j.invariant.others j late (omega (arith, below, c.requires.few)) ∙ sym (unkeyed_later c.args.number c.args.state.now c.keyed_samples-keyed.result (suc j) (omega (arith, late)) none).taken)
+      c.loop-j.invariant.others j late (omega (arith, below, c.requires.few)) ∙ sym (unkeyed_later c.args.number c.args.state.now c.keyed_samples-keyed.result (suc j) (omega (arith, late)) none).kon_latched)
 ]
 
 pub loop-j-init : goal.loop-j-init
 loop-j-init c = record {
   state = no_poll c.args.number c.args.state.now;
-  taken = λ i below. absurd (omega (arith, below));
+  kon_latched = λ i below. absurd (omega (arith, below));
   others = λ i above within. get_or-replicate {A = ℕ} 64 i 0 0 within;
   long = search rules;
 }
@@ -40,11 +40,11 @@ loop-j-preserved c =
     rw from at c.poll.ensures.state ∙ ap (λ (s : ChipState). after_poll s (c.args.number + j)) c.loop-j.invariant.state ∙ one_more_poll c.args.number c.args.state.now j in
     record {
       state = rw add-one next;
-      taken =
-          rw place (with_entry (λ i. (keys_after c.args.number c.args.state.now (suc i)).hidden.taken) c.loop-j.kon j c.poll.new.state.hidden.taken 0 within c.loop-j.invariant.taken
-          (ap (λ (s : ChipState). s.hidden.taken) next));
+      kon_latched =
+          rw place (with_entry (λ i. (keys_after c.args.number c.args.state.now (suc i)).hidden.kon_latched) c.loop-j.kon j c.poll.new.state.hidden.kon_latched 0 within c.loop-j.invariant.kon_latched
+          (ap (λ (s : ChipState). s.hidden.kon_latched) next));
       others = λ i above small.
           let other : i ≢ j = λ e. absurd (omega (arith, e, above)) in
-          rw place (get_or-set_other c.loop-j.kon j i c.poll.new.state.hidden.taken 0 other ∙ c.loop-j.invariant.others i (omega (arith, above)) small);
+          rw place (get_or-set_other c.loop-j.kon j i c.poll.new.state.hidden.kon_latched 0 other ∙ c.loop-j.invariant.others i (omega (arith, above)) small);
       long = search (rules, length-set, c.loop-j.invariant.long);
     }

@@ -18,9 +18,9 @@ module _ (c : goal.After-idle_rows) where
   at_once : IsUnkeyed (keys_after c.args.samples.now.number c.args.state.now 0)
   at_once = rw none at (c.keyed_samples-keyed.ensures.rest c.args.samples.now.number (omega (arith, none, c.requires.batch.some)))
 
-  untaken : c.args.state.now.hidden.taken ≡ 0
+  untaken : c.args.state.now.hidden.kon_latched ≡ 0
   unfolding keys_after
-  untaken = at_once.taken
+  untaken = at_once.kon_latched
 
   idle : (j : ℕ) → j ≤ c.args.samples.now.n → keys_after c.args.samples.now.number c.args.state.now j ≡ c.args.state.now
   idle =
@@ -34,7 +34,7 @@ pub returns-then-firing-n-clause-rows : goal.returns-then-firing-n-clause-rows
 returns-then-firing-n-clause-rows c = record {
   noise = λ j below. rw (c.idle_rows.ensures.noise, idle c (suc j) below) (get_or-replicate 64 j c.args.state.now.hidden.noise 0 (omega (arith, below, c.requires.batch.few)));
   polls = λ j below. c.idle_rows.ensures.polls j (omega (arith, below, c.requires.batch.few));
-  taken = λ j below. rw (c.idle_rows.ensures.kon, idle c (suc j) below, untaken c) (get_or-replicate {A = ℕ} 64 j 0 0 (omega (arith, below, c.requires.batch.few)));
+  kon_latched = λ j below. rw (c.idle_rows.ensures.kon, idle c (suc j) below, untaken c) (get_or-replicate {A = ℕ} 64 j 0 0 (omega (arith, below, c.requires.batch.few)));
 }
 
 pub returns-then-firing-n-clause-noise : goal.returns-then-firing-n-clause-noise
@@ -58,7 +58,7 @@ pub returns-clause-rows : goal.returns-clause-rows
 returns-clause-rows c = record {
   noise = λ j below. rw c.new.ensures.noise (c.step_noise_each-noise.ensures.row c.args.samples.now.number j c.requires.batch.clock below ∙ noise_is c (suc j));
   polls = λ j below. rw c.new.ensures.poll (c.polls_from.ensures j (omega (arith, below, c.requires.batch.few)));
-  taken = λ j below. rw c.new.ensures.kon (c.poll_each-kon.ensures.taken j below);
+  kon_latched = λ j below. rw c.new.ensures.kon (c.poll_each-kon.ensures.kon_latched j below);
 }
 
 pub returns-clause-noise : goal.returns-clause-noise

@@ -45,7 +45,7 @@ finish_sample-frame-requires c =
     let run = rw voices at (c.run_voices.ensures.run k s (record { registers = sym c.step_keys-rows.ensures.registers; table = table; rows = c.step_keys-rows.ensures.rows; clock = c.requires.batch.clock })) in
     let given : c.answers_in-answers.result ≡ answers k s c.args.memory.now c.loop-j.j = c.answers_in-answers.ensures ∙ run.answers_are c.loop-j.j c.loop-j-test.true in
     let eight : length s.hidden.voices ≡ 8 = rw voices at c.run_voices.ensures.eight in
-    rw given (c.keyed_in.ensures ∙ keyed_are k n s c.args.memory.now c.step_keys-rows.result eight c.step_keys-rows.ensures.rows c.step_keys-rows.ensures.taken c.loop-j.j c.loop-j-test.true)
+    rw given (c.keyed_in.ensures ∙ keyed_are k n s c.args.memory.now c.step_keys-rows.result eight c.step_keys-rows.ensures.rows c.step_keys-rows.ensures.kon_latched c.loop-j.j c.loop-j-test.true)
 
 pub push_records-requires : goal.push_records-requires
 push_records-requires c = omega (arith, c.loop-j.invariant.record_count, c.requires.record_room, c.loop-j-test.true)

@@ -24,9 +24,9 @@ loop-j-preserved c =
     let same : number_at c.factors_of-factors.result j ≡ rest *ℤ pos 512 = rw given at (c.factors_of-factors.ensures j c.loop-j-test.true) in
     let back : rest +ℤ pos 128 ≡ c.args.volume = omega (arith, ints) in
     let small : unsigned_abs (rest +ℤ pos 128) < 128 = omega (arith, ints, c.requires.least, c.requires.most) in
-    let told = rw (sum, out, factor) at c.with_strong_share.ensures in
+    let known = rw (sum, out, factor) at c.with_strong_share.ensures in
     let is : c.with_strong_share.result ≡ clamp16 (number_at c.args.sums.now j +ℤ scaled (number_at c.args.outs.now j) (to_z w16 (of_z w16 c.args.volume)) 7) =
-    rw volume (rw (back, c.loop-j.invariant.rest j (omega arith)) at (told rest same small)) in
+    rw volume (rw (back, c.loop-j.invariant.rest j (omega arith)) at (known rest same small)) in
     record {
       added = rw whole (with_entry (λ i. clamp16 (number_at c.args.sums.now i +ℤ scaled (number_at c.args.outs.now i) (to_z w16 (of_z w16 c.args.volume)) 7)) c.loop-j.sums j
           c.with_strong_share.result (pos 0) within c.loop-j.invariant.added is);

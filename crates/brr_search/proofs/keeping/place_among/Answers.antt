@@ -11,5 +11,5 @@ returns-clause-place c = grind (arith, common_steps)
 pub returns-then-end_alike-clause-place : goal.returns-then-end_alike-clause-place
 returns-then-end_alike-clause-place c = grind (arith, common_steps)
 
-pub returns-then-way-other-clause-place : goal.returns-then-way-other-clause-place
-returns-then-way-other-clause-place c = grind (arith, common_steps)
+pub returns-then-candidate-other-clause-place : goal.returns-then-candidate-other-clause-place
+returns-then-candidate-other-clause-place c = grind (arith, common_steps)

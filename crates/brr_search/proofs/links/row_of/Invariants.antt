@@ -2,5 +2,5 @@ use Rattle.std.proofs.Common.{◌≡◌, map, take}
 use Rattle.brr_search.specs.Links.{link_of}
 use Rattle.brr_search.proofs.links.row_of.Given as goal
 
-abbrev pub invariant-ways : goal.invariant-ways
-invariant-ways l = l.links.items ≡ map (link_of l.flags) (take l.way-index l.ways)
+abbrev pub invariant-candidates : goal.invariant-candidates
+invariant-candidates l = l.links.items ≡ map (link_of l.flags) (take l.candidate-index l.candidates)

@@ -1,8 +1,8 @@
 use Rattle.std.proofs.Common.{rules, refl}
 use Rattle.command_brr.specs.Brr.{brr_answer}
-use Rattle.command_frame.specs.NamedInputs.{Held, first}
-use Rattle.command_frame.specs.Plan.{plan_makes}
-use Rattle.command_frame.proofs.Obeying.{attempts, attempts_no_usage, carries_same}
+use Rattle.command_runner.specs.NamedInputs.{Held, first}
+use Rattle.command_runner.specs.Plan.{plan_makes}
+use Rattle.command_runner.proofs.Obeying.{attempts, attempts_no_usage, carries_same}
 use Rattle.command_brr.proofs.command.brr.Goals as goal
 
 pub returns-clause-attempts : goal.returns-clause-attempts

@@ -1,7 +1,7 @@
 use Rattle.std.proofs.Common.{rules, ap, refl}
 use Rattle.brr_decode.specs.Stream.{decoded_stream}
 use Rattle.brr_decode.specs.declared.stream.BrrRefusal.TheVariants as brr
-use Rattle.command_frame.specs.Plan.{plan_makes}
+use Rattle.command_runner.specs.Plan.{plan_makes}
 use Rattle.input_files.specs.Reading.{refused_by}
 use Rattle.input_files.proofs.Readings.{declines_error, plans_declined}
 use Rattle.command_brr.specs.Brr.{brr_refusal, samples_answer}

@@ -1,8 +1,8 @@
 use Rattle.std.proofs.Common.{ℕ, Option, List, ℤ, Err, refl, ap, ◌∙◌}
 use Rattle.std.proofs.lemmas.Result.{err_from_is_err_and}
-use Rattle.command_frame.specs.NamedInputs.{Held, first}
-use Rattle.command_frame.specs.Plan.{stream_makes}
-use Rattle.command_frame.specs.declared.refusals.Refusal.{Refusal}
+use Rattle.command_runner.specs.NamedInputs.{Held, first}
+use Rattle.command_runner.specs.Plan.{stream_makes}
+use Rattle.command_runner.specs.declared.refusals.Refusal.{Refusal}
 use Rattle.dsp_core.specs.DspChip.{dsp_chip, dsp_saving}
 use Rattle.exit_status.specs.declared.cause.Cause.{Cause}
 use Rattle.input_files.specs.Inputs.{table_in}

@@ -1,7 +1,7 @@
 use Rattle.std.proofs.Common.{rules}
-use Rattle.command_frame.specs.NamedInputs.{Held, first}
-use Rattle.command_frame.specs.Plan.{plan_makes}
-use Rattle.command_frame.proofs.Obeying.{attempts, attempts_no_usage}
+use Rattle.command_runner.specs.NamedInputs.{Held, first}
+use Rattle.command_runner.specs.Plan.{plan_makes}
+use Rattle.command_runner.proofs.Obeying.{attempts, attempts_no_usage}
 use Rattle.command_dis.specs.Dis.{dis_answer}
 use Rattle.command_dis.proofs.command.dis.Goals as goal
 

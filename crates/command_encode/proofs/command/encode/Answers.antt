@@ -1,8 +1,8 @@
 use Rattle.std.proofs.Common.{rules}
 use Rattle.command_encode.specs.Encode.{encode_answer}
-use Rattle.command_frame.specs.NamedInputs.{Held, first}
-use Rattle.command_frame.specs.Plan.{plan_makes}
-use Rattle.command_frame.proofs.Obeying.{attempts, attempts_no_usage}
+use Rattle.command_runner.specs.NamedInputs.{Held, first}
+use Rattle.command_runner.specs.Plan.{plan_makes}
+use Rattle.command_runner.proofs.Obeying.{attempts, attempts_no_usage}
 use Rattle.command_encode.proofs.command.encode.Goals as goal
 
 pub returns-clause-attempts : goal.returns-clause-attempts

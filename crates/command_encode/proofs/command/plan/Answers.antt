@@ -1,6 +1,6 @@
 use Rattle.std.proofs.Common.{List, ℤ, Ok, Result, sym, ap, subst, ◌∙◌}
-use Rattle.command_frame.specs.Conduct.{Plans}
-use Rattle.command_frame.specs.Plan.{plan_makes}
+use Rattle.command_runner.specs.Conduct.{Plans}
+use Rattle.command_runner.specs.Plan.{plan_makes}
 use Rattle.wav_form.specs.declared.refusal.WavRefusal.{WavRefusal}
 use Rattle.command_encode.specs.Encode.{samples_answer}
 use Rattle.command_encode.proofs.command.plan.Goals as goal

@@ -1,9 +1,9 @@
 use Rattle.std.proofs.Common.{List, ℕ, Err, ap, ◌∙◌, subst, ◌+◌}
 use Rattle.std.proofs.lemmas.Result.{err_from_is_err_and}
-use Rattle.command_frame.specs.Conduct.{Plans}
-use Rattle.command_frame.specs.NamedInputs.{Held}
-use Rattle.command_frame.specs.Plan.{plan_makes}
-use Rattle.command_frame.specs.declared.refusals.Refusal.{Refusal}
+use Rattle.command_runner.specs.Conduct.{Plans}
+use Rattle.command_runner.specs.NamedInputs.{Held}
+use Rattle.command_runner.specs.Plan.{plan_makes}
+use Rattle.command_runner.specs.declared.refusals.Refusal.{Refusal}
 use Rattle.exit_status.specs.declared.cause.Cause.{Cause}
 use Rattle.exit_status.specs.declared.cause.Cause.TheVariants.{SpcLength}
 use Rattle.input_files.specs.Reading.{input_limit, bytes_in}

@@ -1,7 +1,7 @@
 use Rattle.std.proofs.Common.{rules, refl}
-use Rattle.command_frame.specs.Plan.{stream_makes}
-use Rattle.command_frame.proofs.Making.{prepared_at_once}
-use Rattle.command_frame.proofs.Obeying.{attempts, attempts_no_usage, carries_same}
+use Rattle.command_runner.specs.Plan.{stream_makes}
+use Rattle.command_runner.proofs.Making.{prepared_at_once}
+use Rattle.command_runner.proofs.Obeying.{attempts, attempts_no_usage, carries_same}
 use Rattle.command_render.specs.Render.{render_over}
 use Rattle.render_files.specs.RenderFiles.{to_come_of, report_of}
 use Rattle.dsp_core.specs.DspChip.{dsp_chip}

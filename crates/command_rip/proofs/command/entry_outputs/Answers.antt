@@ -1,6 +1,6 @@
 use Rattle.std.proofs.Common.{◌∙◌, sym, ap, [], ◌∷◌, ◌++◌, get_or, take, map}
 use Rattle.std.proofs.lemmas.List.{map-append, take_more}
-use Rattle.command_frame.specs.Listed.{listed_output}
+use Rattle.command_runner.specs.Listed.{listed_output}
 use Rattle.command_rip.specs.Pieces.{to_come_of}
 use Rattle.command_rip.specs.Rip.{entry_output}
 use Rattle.command_rip.proofs.command.entry_outputs.Goals as goal

@@ -1,5 +1,5 @@
 use Rattle.std.proofs.Common.{◌≡◌, map, take}
-use Rattle.command_frame.specs.Listed.{listed_output}
+use Rattle.command_runner.specs.Listed.{listed_output}
 use Rattle.command_rip.specs.Pieces.{to_come_of}
 use Rattle.command_rip.specs.Rip.{entry_output}
 use Rattle.command_rip.proofs.command.entry_outputs.Given as goal

@@ -1,9 +1,9 @@
 use Rattle.std.proofs.Common.{Some, Err, rules, refl}
-use Rattle.command_frame.specs.NamedInputs.{Held, first}
-use Rattle.command_frame.specs.Listed.{list_makes}
-use Rattle.command_frame.specs.declared.refusals.Refusal.TheVariants.{OutOfMemory}
-use Rattle.command_frame.proofs.Making.{in_turn_nothing, in_turn_prepared}
-use Rattle.command_frame.proofs.Obeying.{attempts, attempts_no_usage, carries_same}
+use Rattle.command_runner.specs.NamedInputs.{Held, first}
+use Rattle.command_runner.specs.Listed.{list_makes}
+use Rattle.command_runner.specs.declared.refusals.Refusal.TheVariants.{OutOfMemory}
+use Rattle.command_runner.proofs.Making.{in_turn_nothing, in_turn_prepared}
+use Rattle.command_runner.proofs.Obeying.{attempts, attempts_no_usage, carries_same}
 use Rattle.input_files.specs.Inputs.{file_in, spc_input}
 use Rattle.input_files.proofs.Readings.{reads_declined, reads_plan}
 use Rattle.command_rip.specs.Pieces.{to_come_of}

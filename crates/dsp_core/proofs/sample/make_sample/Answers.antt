@@ -18,7 +18,7 @@ finish_sample-requires c =
     let eight : length voices ≡ 8 =
     sym (length-map (results_from shared 0 (pos 0) voices) (λ (one : VoiceResult). one.voice) ∙ length-results_from shared 0 (pos 0) voices) ∙ results in
     let below : c.keyed_voices-keyed.result < 0x100 = search rules in
-    let is : c.keyed_voices-keyed.result ≡ (if c.args.number % 2 == 0 then c.step_noise.new.state.hidden.taken else 0) = rw (c.step_chip_voices.ensures.voices c.requires.clock) at c.keyed_voices-keyed.ensures in
+    let is : c.keyed_voices-keyed.result ≡ (if c.args.number % 2 == 0 then c.step_noise.new.state.hidden.kon_latched else 0) = rw (c.step_chip_voices.ensures.voices c.requires.clock) at c.keyed_voices-keyed.ensures in
     rw (c.step_chip_voices.ensures.answers c.requires.clock)
     (keyed_bits shared voices c.keyed_voices-keyed.result eight below is)
 

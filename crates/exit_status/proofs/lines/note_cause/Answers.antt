@@ -1,7 +1,7 @@
 use Rattle.std.proofs.Common.{List, ℕ, ◌++◌, subst}
 use Rattle.std.specs.Prelude.{codes, decimal}
-use Rattle.command_frame.specs.Conduct.{WritesLine}
-use Rattle.command_frame.proofs.Writing.{line_of_write}
+use Rattle.command_runner.specs.Conduct.{WritesLine}
+use Rattle.command_runner.proofs.Writing.{line_of_write}
 use Rattle.exit_status.proofs.lines.note_cause.Goals as goal
 
 pub returns-in-WavForm : goal.returns-in-WavForm

@@ -1,9 +1,9 @@
 use Rattle.std.proofs.Common.{List, ℕ, Err, Ok, ◌++◌, subst}
 use Rattle.std.specs.Prelude.{codes, decimal}
 use Rattle.std.proofs.lemmas.Result.{err_from_is_err_and}
-use Rattle.command_frame.specs.Conduct.{WritesLine}
+use Rattle.command_runner.specs.Conduct.{WritesLine}
 use Rattle.text_form.specs.Digits.{four_digits}
-use Rattle.command_frame.proofs.Writing.{line_of_write, line_failed, line_then}
+use Rattle.command_runner.proofs.Writing.{line_of_write, line_failed, line_then}
 use Rattle.exit_status.proofs.lines.note_code_length.Goals as goal
 
 pub returns-in_err-note_number : goal.returns-in_err-note_number

@@ -12,10 +12,10 @@ returns-in-Ok-clause-reads g c =
     let short = short_bytes c.args.limit c.args.too_long c.in-Ok.bytes.items e.bounded in
     record {
       others = e.others;
-      opened = λ files told. in_order_same _ _ _ (g.H.Host.state c.args.host.now) (g.H.Host.state c.read_whole.new.host) (g.H.Host.state c.read_whole.new.host) (e.opened files told)
+      opened = λ files known. in_order_same _ _ _ (g.H.Host.state c.args.host.now) (g.H.Host.state c.read_whole.new.host) (g.H.Host.state c.read_whole.new.host) (e.opened files known)
           (λ settled. (λ wrong. absurd (cc), λ wrong. absurd (cc))) refl;
       no_fault = e.same (λ wrong. absurd (cc));
-      ok = λ files told. ap (bytes_in c.args.limit c.args.too_long) (e.whole files told) ∙ short;
+      ok = λ files known. ap (bytes_in c.args.limit c.args.too_long) (e.whole files known) ∙ short;
       err = tt;
       calls = record { bytes = c.in-Ok.bytes.items; taken = e.calls.calls; since = e.calls.since; ends = (e.calls.comes, short) };
     }
@@ -27,15 +27,15 @@ returns-in-Err-Failed-clause-reads g c =
     let comes = subst (λ (r : ReadRefusal). ComesOut c.args.name.now c.args.limit e.calls.calls (Err r)) c.in-Err-Failed.field-0-is e.calls.comes in
     record {
       others = e.others;
-      opened = λ files told. in_order_same _ _ _ (g.H.Host.state c.args.host.now) (g.H.Host.state c.read_whole.new.host) (g.H.Host.state c.read_whole.new.host) (e.opened files told)
+      opened = λ files known. in_order_same _ _ _ (g.H.Host.state c.args.host.now) (g.H.Host.state c.read_whole.new.host) (g.H.Host.state c.read_whole.new.host) (e.opened files known)
           (λ settled. absurd (settled.0 refl)) refl;
       no_fault = tt;
       ok = tt;
       err = record {
-        told = λ files told. inr (inl refl);
+        known = λ files known. inr (inl refl);
         read = λ _. e.failed is;
         no_fault = λ other. absurd (other refl);
-        steady = λ _ steady files told. ap (bytes_in c.args.limit c.args.too_long) (e.steady is steady files told);
+        steady = λ _ steady files known. ap (bytes_in c.args.limit c.args.too_long) (e.steady is steady files known);
         no_usage = λ wrong. absurd (cc);
         no_write = λ wrong. absurd (cc);
       };
@@ -48,12 +48,12 @@ returns-in-Err-OutOfMemory-clause-reads g c =
     let comes = subst (λ (r : ReadRefusal). ComesOut c.args.name.now c.args.limit e.calls.calls (Err r)) c.in-Err-OutOfMemory.field-0-is e.calls.comes in
     record {
       others = e.others;
-      opened = λ files told. in_order_same _ _ _ (g.H.Host.state c.args.host.now) (g.H.Host.state c.read_whole.new.host) (g.H.Host.state c.read_whole.new.host) (e.opened files told)
+      opened = λ files known. in_order_same _ _ _ (g.H.Host.state c.args.host.now) (g.H.Host.state c.read_whole.new.host) (g.H.Host.state c.read_whole.new.host) (e.opened files known)
           (λ settled. absurd (settled.1 refl)) refl;
       no_fault = tt;
       ok = tt;
       err = record {
-        told = λ files told. inr (inr refl);
+        known = λ files known. inr (inr refl);
         read = λ wrong. absurd (cc);
         no_fault = λ _. e.same (λ wrong. absurd (cc));
         steady = λ wrong. absurd (cc);
@@ -70,12 +70,12 @@ returns-in-Err-TooLong-clause-reads g c =
     let comes = subst (λ (r : ReadRefusal). ComesOut c.args.name.now c.args.limit e.calls.calls (Err r)) c.in-Err-TooLong.field-0-is e.calls.comes in
     record {
       others = e.others;
-      opened = λ files told. in_order_same _ _ _ (g.H.Host.state c.args.host.now) (g.H.Host.state c.read_whole.new.host) (g.H.Host.state c.read_whole.new.host) (e.opened files told)
+      opened = λ files known. in_order_same _ _ _ (g.H.Host.state c.args.host.now) (g.H.Host.state c.read_whole.new.host) (g.H.Host.state c.read_whole.new.host) (e.opened files known)
           (λ settled. (λ wrong. absurd (cc), λ wrong. absurd (cc))) refl;
       no_fault = tt;
       ok = tt;
       err = record {
-        told = λ files told. inl (too_long_bytes c.args.limit c.args.too_long (files c.args.name.now) (e.too_long is files told));
+        known = λ files known. inl (too_long_bytes c.args.limit c.args.too_long (files c.args.name.now) (e.too_long is files known));
         read = λ wrong. absurd (cc);
         no_fault = λ _. e.same (λ wrong. absurd (cc));
         steady = λ wrong. absurd (cc);

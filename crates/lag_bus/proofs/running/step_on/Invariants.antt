@@ -1,5 +1,5 @@
 use Rattle.std.proofs.Common.{◌≡◌, false, ◌*◌, ◌-◌, ◌≤◌}
-use Rattle.spc700_exec.specs.Bus.{most_calls_before_step}
+use Rattle.spc700_exec.specs.Bus.{max_calls_before_step}
 use Rattle.lock_step.specs.StepsOfRun.{AreStepsOf}
 use Rattle.lag_bus.specs.Lagging.{lagging}
 use Rattle.lag_bus.specs.LagEmits.{lag_emits}
@@ -12,7 +12,7 @@ invariant-steps g l = record {
   name : l.running.name ≡ l.initial.running.name;
   samples : l.running.samples ≡ l.initial.running.samples;
   taken : AreStepsOf (lagging g.B.C.Chip.meaning) (lag_emits g.B.C.Chip.meaning) l.initial.running.samples l.initial.cpu l.initial.running.bus l.cpu l.running.bus;
-  calls : l.running.bus.machine.calls ≤ most_calls_before_step;
+  calls : l.running.bus.machine.calls ≤ max_calls_before_step;
   awake : l.cpu.halted ≡ false;
   on : l.initial.running.bus.machine.clock ≤ l.running.bus.machine.clock;
 }

@@ -17,20 +17,20 @@ pub returns-in_err-count-clause-failed : goal.returns-in_err-count-clause-failed
 returns-in_err-count-clause-failed g c = λ _. record { once = c.in_err-count.ensures.cause.failed ∙ ap next_count c.reading.invariant.inputs; last = c.in_err-count.ensures.last }
 
 pub returns-in_err-file-clause-steady : goal.returns-in_err-file-clause-steady
-returns-in_err-file-clause-steady g c = λ _ steady files told.
-    none_unless _ (λ there. let ok = c.in_err-file.ensures.steady steady files told there in search rules)
+returns-in_err-file-clause-steady g c = λ _ steady files known.
+    none_unless _ (λ there. let ok = c.in_err-file.ensures.steady steady files known there in search rules)
 
 pub returns-in_err-file-clause-opened : goal.returns-in_err-file-clause-opened
-returns-in_err-file-clause-opened g c = λ files told.
+returns-in_err-file-clause-opened g c = λ files known.
     let before = g.H.Host.state c.args.host.now in
     in_order_none _ _ before _ (opens_same [] before before _ (opens_nothing before) c.in_err-file.ensures.not_opened) (λ settled. settled.0 (search rules))
 
 pub returns-then-count-eq0-clause-whole : goal.returns-then-count-eq0-clause-whole
-returns-then-count-eq0-clause-whole g c = λ files told.
-    let whole = some_is _ (c.in_ok-file.ensures.there files told) in
-    let left = c.reading.invariant.left files whole.0 told whole.1 in
+returns-then-count-eq0-clause-whole g c = λ files known.
+    let whole = some_is _ (c.in_ok-file.ensures.there files known) in
+    let left = c.reading.invariant.left files whole.0 known whole.1 in
     let none = c.in_ok-count.ensures.end (ap (λ (n : ℕ). Ok n) c.if-count-eq0.true) (search (rules, places)) _ left in
-    whole.1 ∙ ap (λ (l : List ℕ). Some l) (sym (c.reading.invariant.front files whole.0 told whole.1 ∙ front_is_whole (vec_len c.reading.bytes) whole.0 none))
+    whole.1 ∙ ap (λ (l : List ℕ). Some l) (sym (c.reading.invariant.front files whole.0 known whole.1 ∙ front_is_whole (vec_len c.reading.bytes) whole.0 none))
 
 pub reading-preserved : goal.reading-preserved
 reading-preserved g c =
@@ -44,13 +44,13 @@ reading-preserved g c =
       inputs = c.in_ok-count.ensures.cause.same ∙ c.reading.invariant.inputs;
       opened = opens_read (record { name = c.args.name.now; read = vec_len c.reading.bytes }) c.in_ok-count.count (vec_len c.extend_from_slice.new.self) (g.H.Host.state c.args.host.now) (g.H.Host.state c.reading.host) (g.H.Host.state c.read.new.self)
           more c.reading.invariant.opened c.in_ok-count.ensures.counted_bytes;
-      front = λ files whole told is. c.in_ok-extend_from_slice.ensures.items ∙ read_more whole c.reading.bytes.items c.read.new.buf _ (vec_len c.reading.bytes) c.in_ok-count.count
-          (c.reading.invariant.front files whole told is) (c.in_ok-count.ensures.front _ (c.reading.invariant.left files whole told is)) within
+      front = λ files whole known is. c.in_ok-extend_from_slice.ensures.items ∙ read_more whole c.reading.bytes.items c.read.new.buf _ (vec_len c.reading.bytes) c.in_ok-count.count
+          (c.reading.invariant.front files whole known is) (c.in_ok-count.ensures.front _ (c.reading.invariant.left files whole known is)) within
           ∙ ap (λ (n : ℕ). take n whole) (sym more);
-      left = λ files whole told is. c.in_ok-count.ensures.left _ (c.reading.invariant.left files whole told is) ∙ ap (λ (l : List ℕ). Some l) (drop-drop c.in_ok-count.count (vec_len c.reading.bytes) whole ∙ ap (λ (n : ℕ). drop n whole) (sym more));
-      available = λ files whole told is.
-          let available = c.in_ok-count.ensures.available _ (c.reading.invariant.left files whole told is) in
-          let before = c.reading.invariant.available files whole told is in
+      left = λ files whole known is. c.in_ok-count.ensures.left _ (c.reading.invariant.left files whole known is) ∙ ap (λ (l : List ℕ). Some l) (drop-drop c.in_ok-count.count (vec_len c.reading.bytes) whole ∙ ap (λ (n : ℕ). drop n whole) (sym more));
+      available = λ files whole known is.
+          let available = c.in_ok-count.ensures.available _ (c.reading.invariant.left files whole known is) in
+          let before = c.reading.invariant.available files whole known is in
           omega (arith, more, length-drop (vec_len c.reading.bytes) whole);
       reads = c.reading.invariant.reads ++ read c.in_ok-file.file.0 _ (take c.in_ok-count.count c.read.new.buf) ∷ [];
       since = since_more (opened_file c.args.name.now c.in_ok-file.file.0 ∷ c.reading.invariant.reads) (read c.in_ok-file.file.0 _ (take c.in_ok-count.count c.read.new.buf)) _ _ _ c.reading.invariant.since c.in_ok-count.ensures.made;
@@ -60,63 +60,63 @@ reading-preserved g c =
     }
 
 pub returns-clause-too_long : goal.returns-clause-too_long
-returns-clause-too_long g c = λ _ files told.
-    let whole = some_is _ (c.in_ok-file.ensures.there files told) in
-    is_some_and _ whole.0 _ whole.1 (let long = c.reading.invariant.available files whole.0 told whole.1 in omega arith)
+returns-clause-too_long g c = λ _ files known.
+    let whole = some_is _ (c.in_ok-file.ensures.there files known) in
+    is_some_and _ whole.0 _ whole.1 (let long = c.reading.invariant.available files whole.0 known whole.1 in omega arith)
 
 pub returns-then-count-eq0-clause-end : goal.returns-then-count-eq0-clause-end
-returns-then-count-eq0-clause-end g c = λ files told.
-    let whole = some_is _ (c.in_ok-file.ensures.there files told) in
-    let left = c.reading.invariant.left files whole.0 told whole.1 in
+returns-then-count-eq0-clause-end g c = λ files known.
+    let whole = some_is _ (c.in_ok-file.ensures.there files known) in
+    let left = c.reading.invariant.left files whole.0 known whole.1 in
     let none = c.in_ok-count.ensures.end (ap (λ (n : ℕ). Ok n) c.if-count-eq0.true) (search (rules, places)) _ left in
     c.in_ok-count.ensures.left _ left ∙ ap (λ (l : List ℕ). Some (drop c.in_ok-count.count l)) none ∙ ap (λ (n : ℕ). Some (drop n [])) c.if-count-eq0.true
 
 pub returns-clause-left : goal.returns-clause-left
-returns-clause-left g c = λ _ files told bytes is.
+returns-clause-left g c = λ _ files known bytes is.
     let all : vec_len c.reading.bytes ≡ c.args.limit + 1 = omega (arith, c.reading.invariant.within) in
-    c.reading.invariant.left files bytes told is ∙ ap (λ (n : ℕ). Some (drop n bytes)) all
+    c.reading.invariant.left files bytes known is ∙ ap (λ (n : ℕ). Some (drop n bytes)) all
 
 pub returns-in_err-count-clause-opened : goal.returns-in_err-count-clause-opened
-returns-in_err-count-clause-opened g c = λ files told.
-    let whole = some_is _ (c.in_ok-file.ensures.there files told) in
+returns-in_err-count-clause-opened g c = λ files known.
+    let whole = some_is _ (c.in_ok-file.ensures.there files known) in
     let long = held_length (files c.args.name.now) whole.0 whole.1 in
     let within = c.reading.invariant.within in
-    let available = c.reading.invariant.available files whole.0 told whole.1 in
+    let available = c.reading.invariant.available files whole.0 known whole.1 in
     in_order_part (record { name = c.args.name.now; read = vec_len c.reading.bytes }) _ _ (g.H.Host.state c.args.host.now) (g.H.Host.state c.read.new.self)
     (opens_same _ (g.H.Host.state c.args.host.now) (g.H.Host.state c.reading.host) (g.H.Host.state c.read.new.self) c.reading.invariant.opened c.in_err-count.ensures.no_bytes)
     refl (omega arith) (λ settled. settled.0 (search rules))
 
 pub returns-in_err-extend_from_slice-clause-opened : goal.returns-in_err-extend_from_slice-clause-opened
-returns-in_err-extend_from_slice-clause-opened g c = λ files told.
-    let whole = some_is _ (c.in_ok-file.ensures.there files told) in
+returns-in_err-extend_from_slice-clause-opened g c = λ files known.
+    let whole = some_is _ (c.in_ok-file.ensures.there files known) in
     let long = held_length (files c.args.name.now) whole.0 whole.1 in
     let within = c.reading.invariant.within in
-    let before = c.reading.invariant.available files whole.0 told whole.1 in
-    let available = c.in_ok-count.ensures.available _ (c.reading.invariant.left files whole.0 told whole.1) in
+    let before = c.reading.invariant.available files whole.0 known whole.1 in
+    let available = c.in_ok-count.ensures.available _ (c.reading.invariant.left files whole.0 known whole.1) in
     in_order_part (record { name = c.args.name.now; read = vec_len c.reading.bytes + c.in_ok-count.count }) _ _ (g.H.Host.state c.args.host.now) (g.H.Host.state c.read.new.self)
     (opens_read (record { name = c.args.name.now; read = vec_len c.reading.bytes }) c.in_ok-count.count _ (g.H.Host.state c.args.host.now) (g.H.Host.state c.reading.host) (g.H.Host.state c.read.new.self)
     refl c.reading.invariant.opened c.in_ok-count.ensures.counted_bytes)
     refl (omega (arith, c.in_ok-count.ensures.within, length-take c.min-room.result c.reading.buffer, length-drop (vec_len c.reading.bytes) whole.0)) (λ settled. settled.1 (search rules))
 
 pub returns-then-count-eq0-clause-opened : goal.returns-then-count-eq0-clause-opened
-returns-then-count-eq0-clause-opened g c = λ files told.
-    let whole = some_is _ (c.in_ok-file.ensures.there files told) in
+returns-then-count-eq0-clause-opened g c = λ files known.
+    let whole = some_is _ (c.in_ok-file.ensures.there files known) in
     let long = held_length (files c.args.name.now) whole.0 whole.1 in
-    let left = c.reading.invariant.left files whole.0 told whole.1 in
+    let left = c.reading.invariant.left files whole.0 known whole.1 in
     let none = ap (length {A = ℕ}) (c.in_ok-count.ensures.end (ap (λ (n : ℕ). Ok n) c.if-count-eq0.true) (search (rules, places)) _ left) in
     let within = c.reading.invariant.within in
-    let available = c.reading.invariant.available files whole.0 told whole.1 in
+    let available = c.reading.invariant.available files whole.0 known whole.1 in
     in_order_whole (record { name = c.args.name.now; read = vec_len c.reading.bytes }) _ _ (g.H.Host.state c.args.host.now) (g.H.Host.state c.read.new.self)
     (opens_read (record { name = c.args.name.now; read = vec_len c.reading.bytes }) c.in_ok-count.count _ (g.H.Host.state c.args.host.now) (g.H.Host.state c.reading.host) (g.H.Host.state c.read.new.self)
     (omega (arith, c.if-count-eq0.true)) c.reading.invariant.opened c.in_ok-count.ensures.counted_bytes)
     (ap (λ (n : ℕ). record { name = c.args.name.now; read = n }) (omega (arith, none, length-drop (vec_len c.reading.bytes) whole.0)))
 
 pub returns-clause-opened : goal.returns-clause-opened
-returns-clause-opened g c = λ files told.
-    let whole = some_is _ (c.in_ok-file.ensures.there files told) in
+returns-clause-opened g c = λ files known.
+    let whole = some_is _ (c.in_ok-file.ensures.there files known) in
     let long = held_length (files c.args.name.now) whole.0 whole.1 in
     let within = c.reading.invariant.within in
-    let available = c.reading.invariant.available files whole.0 told whole.1 in
+    let available = c.reading.invariant.available files whole.0 known whole.1 in
     in_order_whole (record { name = c.args.name.now; read = vec_len c.reading.bytes }) _ _ (g.H.Host.state c.args.host.now) (g.H.Host.state c.reading.host) c.reading.invariant.opened
     (ap (λ (n : ℕ). record { name = c.args.name.now; read = n }) (omega arith))
 

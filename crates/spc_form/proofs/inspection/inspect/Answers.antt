@@ -10,7 +10,7 @@ returns-in-None-clause-info c =
     (λ i. Ok (record {
       length = c.length_in.ensures.length i;
       is_tagged = c.is_tagged_in.ensures i;
-      is_length_told = c.is_length_told_in.ensures.told i;
+      is_length_known = c.is_length_known_in.ensures.known i;
       texts = c.text_places.ensures i;
     }))
     ∙ ap Ok (sym (info_of-padded c.args.bytes.now long))

@@ -1,4 +1,4 @@
-use Rattle.command_frame.proofs.PlainRuns.{noted}
+use Rattle.command_runner.proofs.PlainRuns.{noted}
 use Rattle.exit_status.specs.Lines.{end_line}
 use Rattle.spcwave.proofs.laws.a_complaint_stops_at_its_first_failed_write.Goals as goal
 

@@ -1,5 +1,5 @@
 use Rattle.std.proofs.Common.{◌+◌, length}
-use Rattle.command_frame.proofs.PlainRuns.{ends_plain}
+use Rattle.command_runner.proofs.PlainRuns.{ends_plain}
 use Rattle.spcwave.specs.Answers.{answer_by, inputs_of, order_of}
 use Rattle.spcwave.proofs.laws.a_run_stops_at_its_first_failed_call.Goals as goal
 

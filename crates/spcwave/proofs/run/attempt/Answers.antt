@@ -1,9 +1,9 @@
 use Rattle.std.proofs.Common.{Some, subst}
-use Rattle.command_frame.specs.declared.refusals.Refusal.TheVariants.{Usage}
+use Rattle.command_runner.specs.declared.refusals.Refusal.TheVariants.{Usage}
 use Rattle.command_line.specs.Command.{Command}
 use Rattle.spcwave.specs.Answers.{answer_by, inputs_of, order_of}
-use Rattle.command_frame.specs.Conduct.{AttemptsAs}
-use Rattle.command_frame.proofs.Obeying.{attempts_usage}
+use Rattle.command_runner.specs.Conduct.{AttemptsAs}
+use Rattle.command_runner.proofs.Obeying.{attempts_usage}
 use Rattle.spcwave.specs.RunClauses.{MakesOutputs}
 use Rattle.spcwave.proofs.run.attempt.Goals as goal
 

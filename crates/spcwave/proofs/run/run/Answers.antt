@@ -1,4 +1,4 @@
-use Rattle.command_frame.proofs.Obeying.{obeys}
+use Rattle.command_runner.proofs.Obeying.{obeys}
 use Rattle.exit_status.specs.Lines.{refusal_line}
 use Rattle.spcwave.proofs.Clauses as clauses
 use Rattle.spcwave.proofs.run.run.Goals as goal

@@ -1,4 +1,4 @@
-use Rattle.voice_unit.proofs.Glided.{unmodulated_points}
+use Rattle.voice_unit.proofs.RenderedSpan.{unmodulated_phases}
 use Rattle.voice_unit.proofs.RowOfVoice.{plays_row, reads_row}
 use Rattle.voice_unit.proofs.laws.kept_rows.Goals as goal
 
@@ -9,4 +9,4 @@ pub returns-clause-stands : goal.returns-clause-stands
 returns-clause-stands c = reads_row
 
 pub returns-clause-unmodulated : goal.returns-clause-unmodulated
-returns-clause-unmodulated c = unmodulated_points
+returns-clause-unmodulated c = unmodulated_phases

@@ -13,9 +13,9 @@ unfolding floor_shift
 value c =
     let part : ℤ = floor_shift c.args.previous 5 in
     let whole = shift_and_rest c.args.previous 5 in
-    let rest = rest_of-small c.args.previous 5 in
-    let low : negsuc 1023 ≤ℤ part = omega (arith, ints, whole, rest) in
-    let high : part ≤ℤ pos 1023 = omega (arith, ints, whole, rest) in
+    let samples_until_change = rest_of-small c.args.previous 5 in
+    let low : negsuc 1023 ≤ℤ part = omega (arith, ints, whole, samples_until_change) in
+    let high : part ≤ℤ pos 1023 = omega (arith, ints, whole, samples_until_change) in
     let fits : FitsSigned w16 (part *ℤ pos 32) = fits_times_32 part low high in
     let product : c.scaled-bend.result ≡ scaled (part *ℤ pos 32) (pos (2 * c.args.pitch)) 16 = grind (arith, ints, to_z-of_z) in
     let double : pos (2 * c.args.pitch) ≡ pos c.args.pitch *ℤ pos 2 = omega (arith, ints) in

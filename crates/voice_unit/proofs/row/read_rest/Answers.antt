@@ -1,5 +1,5 @@
 use Rattle.std.proofs.Common.{◌/◌, ◌∙◌, ℕ, List, ℤ, take, ap, arith}
-use Rattle.brr_decode.specs.Remembered.{with_groups}
+use Rattle.brr_decode.specs.CachedBlocks.{with_groups}
 use Rattle.voice_unit.proofs.InBlock.{row_of_block}
 use Rattle.voice_unit.proofs.row.read_rest.Goals as goal
 

@@ -2,12 +2,12 @@ use Rattle.std.proofs.Common.{◌≢◌, ◌+◌, ◌∙◌, arith}
 use Rattle.voice_unit.proofs.short_sounding.put_two.Goals as goal
 
 pub returns-clause-first : goal.returns-clause-first
-returns-clause-first c table place are point =
+returns-clause-first c table place are phase =
     let apart : c.args.j ≢ c.args.j + 1 = omega arith in
-    c.put_products-2.ensures.others c.args.j apart ∙ c.put_products.ensures.here ∙ c.products_at-first.ensures table place are point
+    c.put_products-2.ensures.others c.args.j apart ∙ c.put_products.ensures.here ∙ c.products_at-first.ensures table place are phase
 
 pub returns-clause-second : goal.returns-clause-second
-returns-clause-second c table place are point = c.put_products-2.ensures.here ∙ c.products_at-second.ensures table place are point
+returns-clause-second c table place are phase = c.put_products-2.ensures.here ∙ c.products_at-second.ensures table place are phase
 
 pub returns-clause-before : goal.returns-clause-before
 returns-clause-before c i before =

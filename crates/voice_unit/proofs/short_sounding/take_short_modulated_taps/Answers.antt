@@ -11,9 +11,9 @@ pub loop-c-preserved : goal.loop-c-preserved
 loop-c-preserved c =
     let n : ℕ = 2 * c.loop-c.c in
     record {
-      taps = λ table are. two_more n (2 * (c.loop-c.c + 1)) (λ i. short_mixed_at c.put_two.new.taps i ≡ interpolation table c.args.row.now (slice_index c.args.points.now i))
+      taps = λ table are. two_more n (2 * (c.loop-c.c + 1)) (λ i. short_mixed_at c.put_two.new.taps i ≡ interpolation table c.args.row.now (slice_index c.args.phases.now i))
           (omega arith)
           (λ i below. c.put_two.ensures.before i below ∙ c.loop-c.invariant.taps table are i below)
-          (c.put_two.ensures.first table (slice_index c.args.points.now n) are refl)
-          (c.put_two.ensures.second table (slice_index c.args.points.now (n + 1)) are refl);
+          (c.put_two.ensures.first table (slice_index c.args.phases.now n) are refl)
+          (c.put_two.ensures.second table (slice_index c.args.phases.now (n + 1)) are refl);
     }

@@ -6,5 +6,5 @@ use Rattle.voice_unit.proofs.short_sounding.take_short_modulated_taps.Given as g
 
 abbrev pub invariant-loop-c : goal.invariant-loop-c
 invariant-loop-c l = record {
-  taps : (table : List ℤ) → AreFactors table l.factors → (i : ℕ) → i < 2 * l.c → short_mixed_at l.taps i ≡ interpolation table l.row (slice_index l.points i);
+  taps : (table : List ℤ) → AreFactors table l.factors → (i : ℕ) → i < 2 * l.c → short_mixed_at l.taps i ≡ interpolation table l.row (slice_index l.phases i);
 }

@@ -15,17 +15,17 @@ loop-c-preserved c =
     let n : ℕ = 4 * c.loop-c.c in
     let pitch : ℕ = c.args.pitch in
     let step : c.from-step.result ≡ pitch = c.from-step.ensures in
-    let point : c.loop-c.point ≡ 16 * (c.args.position + n * pitch) = c.loop-c.invariant.point in
+    let phase : c.loop-c.phase ≡ 16 * (c.args.position + n * pitch) = c.loop-c.invariant.phase in
     let first = c.put_two.ensures in
     let then = c.put_two-in-loop-c.ensures in
     record {
       taps = λ table are. four_more n (4 * (c.loop-c.c + 1)) (λ i. short_mixed_at c.put_two-in-loop-c.new.taps i ≡ interpolation table c.args.row.now (c.args.position + i * pitch))
           (omega arith)
           (λ i below. then.before i (omega arith) ∙ first.before i below ∙ c.loop-c.invariant.taps table are i below)
-          (then.before n (omega arith) ∙ first.first table (c.args.position + n * pitch) are point)
-          (then.before (n + 1) (omega arith) ∙ first.second table (c.args.position + (n + 1) * pitch) are (rw step (omega (arith, point))))
-          (then.first table (c.args.position + (n + 2) * pitch) are (rw step (omega (arith, point))))
-          (then.second table (c.args.position + (n + 2 + 1) * pitch) are (rw step (omega (arith, point))));
-      point = rw step (omega (arith, point));
+          (then.before n (omega arith) ∙ first.first table (c.args.position + n * pitch) are phase)
+          (then.before (n + 1) (omega arith) ∙ first.second table (c.args.position + (n + 1) * pitch) are (rw step (omega (arith, phase))))
+          (then.first table (c.args.position + (n + 2) * pitch) are (rw step (omega (arith, phase))))
+          (then.second table (c.args.position + (n + 2 + 1) * pitch) are (rw step (omega (arith, phase))));
+      phase = rw step (omega (arith, phase));
       bound = rw step (omega (arith, c.loop-c.invariant.bound));
     }

@@ -5,6 +5,6 @@ use Rattle.voice_unit.proofs.sounding.take_modulated_taps.Given as goal
 
 abbrev pub invariant-loop-j : goal.invariant-loop-j
 invariant-loop-j l = record {
-  taps : (i : ℕ) → i < l.j → mixed_at l.taps i ≡ interpolation l.table l.row (slice_index l.points i);
+  taps : (i : ℕ) → i < l.j → mixed_at l.taps i ≡ interpolation l.table l.row (slice_index l.phases i);
   long : length l.taps ≡ 64;
 }

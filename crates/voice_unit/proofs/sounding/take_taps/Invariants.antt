@@ -6,7 +6,7 @@ use Rattle.voice_unit.proofs.sounding.take_taps.Given as goal
 abbrev pub invariant-loop-j : goal.invariant-loop-j
 invariant-loop-j l = record {
   taps : (i : ℕ) → i < l.j → mixed_at l.taps i ≡ interpolation l.table l.row (l.position + i * l.pitch);
-  point : l.point ≡ 0x10 * (l.position + l.j * l.pitch);
-  bound : l.point ≤ 0x10 * (0x7fff + l.j * 0x3fff);
+  phase : l.phase ≡ 0x10 * (l.position + l.j * l.pitch);
+  bound : l.phase ≤ 0x10 * (0x7fff + l.j * 0x3fff);
   long : length l.taps ≡ 64;
 }

@@ -1,7 +1,7 @@
 use Rattle.std.proofs.Common.{◌≡◌, ◌∙◌, ℕ, suc, ◌+◌, ◌<◌, ◌≤◌, List, ◌∷◌, drop, length, get_or, Some, refl, ap, sym, subst, arith}
 use Rattle.std.specs.List.{slice_get}
 use Rattle.std.proofs.lemmas.Option.{slice_get_within, slice_get_read}
-use Rattle.num_fix.specs.Limits.{most_frames}
+use Rattle.num_fix.specs.Limits.{max_frames}
 use Rattle.num_fix.specs.declared.Frame.{Frame}
 use Rattle.cut_form.specs.declared.cut.Cut.{Cut}
 use Rattle.cut_form.specs.CutBook.{after_seek, with_one_if_room, slots_for_cuts}
@@ -19,7 +19,7 @@ use Rattle.cut_files.proofs.pieces.CutFiles.begin.Goals as goal
 record Found (cuts : List Cut) (i : ℕ) (cut : Cut) : Type 0 where
   before : i + 1 ≤ length cuts
   first : drop i cuts ≡ cut ∷ drop (i + 1) cuts
-  within : cut.start + cut.count ≤ most_frames
+  within : cut.start + cut.count ≤ max_frames
 
 found : (cuts read : List Cut) (i : ℕ) (cut : Cut) → read ≡ cuts → EndWithinHour read → i < length read → cut ≡ get_or read i cut → Found cuts i cut
 found cuts read i cut same within before is =
@@ -69,5 +69,5 @@ invariant_of-self g c =
       begun = (at_cut g c).before;
       bounds = bounds_begun (book_of c.mark_if_room.new.server) (pages_at g.C.Chip.meaning g.C.Chip.saving server) c.in-Some.cut.now (bounds g c) (at_cut g c).within (book g c);
       done = λ done. omega (arith, ap length (at_cut g c).first, c.self.invariant.done done);
-      told = λ done. c.self.invariant.told done ∙ ap (report_of g.C.Chip.meaning g.C.Chip.saving) c.self.view_is ∙ sym (returns-clause-report g c);
+      known = λ done. c.self.invariant.known done ∙ ap (report_of g.C.Chip.meaning g.C.Chip.saving) c.self.view_is ∙ sym (returns-clause-report g c);
     }

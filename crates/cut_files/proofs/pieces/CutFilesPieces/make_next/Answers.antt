@@ -4,10 +4,10 @@ use Rattle.cut_files.proofs.pieces.CutFilesPieces.make_next.Goals as goal
 
 pub returns-then-done-clause-report : goal.returns-then-done-clause-report
 returns-then-done-clause-report g c =
-    let told = report_of g.C.Chip.meaning g.C.Chip.saving in
-    rw c.tell.ensures (ap told c.self-2.view_is ∙ c.play_cuts-done.ensures.report ∙ ap told c.self.view_is)
+    let known = report_of g.C.Chip.meaning g.C.Chip.saving in
+    rw c.tell.ensures (ap known c.self-2.view_is ∙ c.play_cuts-done.ensures.report ∙ ap known c.self.view_is)
 
 pub returns-else-done-clause-report : goal.returns-else-done-clause-report
 returns-else-done-clause-report g c =
-    let told = report_of g.C.Chip.meaning g.C.Chip.saving in
-    ap told c.self-2.view_is ∙ c.play_cuts-done.ensures.report ∙ ap told c.self.view_is
+    let known = report_of g.C.Chip.meaning g.C.Chip.saving in
+    ap known c.self-2.view_is ∙ c.play_cuts-done.ensures.report ∙ ap known c.self.view_is

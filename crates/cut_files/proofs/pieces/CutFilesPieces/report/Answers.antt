@@ -5,4 +5,4 @@ use Rattle.cut_files.proofs.pieces.CutFilesPieces.report.Goals as goal
 pub returns : goal.returns
 returns g c =
     let done : c.self.inside.is_done ≡ true = cc in
-    rw (← c.self.view_is) (c.as_slice.ensures ∙ c.self.invariant.told done)
+    rw (← c.self.view_is) (c.as_slice.ensures ∙ c.self.invariant.known done)

@@ -1,6 +1,6 @@
 use Rattle.std.proofs.Common.{rules, refl, None, Ok, Err}
 use Rattle.snd_host.specs.declared.host.Failed.{Failed}
-use Rattle.disk_host.specs.Created.{flags_of, told_or}
+use Rattle.disk_host.specs.Created.{flags_of, known_or}
 use Rattle.disk_host.proofs.Places.{keeps_same}
 use Rattle.disk_host.proofs.Outputs.{open_place, number_at, outputs_kept, writes_place}
 use Rattle.disk_host.proofs.host.DiskHostHost.write.Goals as goal
@@ -34,28 +34,28 @@ returns-in_default-write_created-clause-bytes g c =
 
 pub returns-clause-wrote : goal.returns-clause-wrote
 returns-clause-wrote g c = record {
-  given = λ given told. absurd (cc);
+  given = λ given known. absurd (cc);
   ended = c.in-Ok-write_created.ensures.flags;
   others = record { holds = refl; left = refl; current = refl; inputs = refl };
-  rooms = λ rooms told. absurd (cc);
+  rooms = λ rooms known. absurd (cc);
 }
 
 pub returns-clause-last : goal.returns-clause-last
 returns-clause-last g c = record { output = λ _. refl; note = λ note. absurd (c.if-file-eq1.false note) }
 
 pub returns-clause-input : goal.returns-clause-input
-returns-clause-input g c = keeps_same (told_or g.D.Disk.left None c.args.self.now.input)
+returns-clause-input g c = keeps_same (known_or g.D.Disk.left None c.args.self.now.input)
 
 pub returns-in_default-write_created-clause-unwritten : goal.returns-in_default-write_created-clause-unwritten
 returns-in_default-write_created-clause-unwritten g c = record {
-  given = λ given told. absurd (cc);
+  given = λ given known. absurd (cc);
   ended = c.in_default-write_created.ensures.flags;
   others = record { holds = refl; left = refl; current = refl; inputs = refl };
-  rooms = λ rooms told. absurd (cc);
+  rooms = λ rooms known. absurd (cc);
 }
 
 pub returns-in_default-write_created-clause-last : goal.returns-in_default-write_created-clause-last
 returns-in_default-write_created-clause-last g c = record { output = λ _. refl; note = λ note. absurd (c.if-file-eq1.false note) }
 
 pub returns-in_default-write_created-clause-input : goal.returns-in_default-write_created-clause-input
-returns-in_default-write_created-clause-input g c = keeps_same (told_or g.D.Disk.left None c.args.self.now.input)
+returns-in_default-write_created-clause-input g c = keeps_same (known_or g.D.Disk.left None c.args.self.now.input)

@@ -1,4 +1,4 @@
-use Rattle.command_frame.proofs.Writing.{line_of_write}
+use Rattle.command_runner.proofs.Writing.{line_of_write}
 use Rattle.exit_status.proofs.lines.CauseComplaint.write_line.Goals as goal
 
 pub returns-in-Usage : goal.returns-in-Usage

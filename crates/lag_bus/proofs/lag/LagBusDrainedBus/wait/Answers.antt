@@ -3,7 +3,7 @@ use Rattle.std.proofs.Math.Nat.{mod-add-div'}
 use Rattle.aram_core.specs.Memory.{byte_at}
 use Rattle.ports_timers.specs.declared.io.Io.{Io}
 use Rattle.chip_form.specs.Samples.{samples}
-use Rattle.idle_rounds.specs.Looking.{look_of_steps}
+use Rattle.idle_loops.specs.Looking.{peek_of_steps}
 use Rattle.ports_timers.specs.Zeros.{AreTimers}
 use Rattle.lock_step.specs.declared.counts.Counts.{Counts}
 use Rattle.lag_bus.specs.Late.{Late}
@@ -13,7 +13,7 @@ use Rattle.lag_bus.specs.LagEmits.{lag_emits}
 use Rattle.lag_bus.specs.Waiting.{byte_seen, samples_in, IsKept}
 use Rattle.lag_bus.specs.IsLagging.{lagging_of}
 use Rattle.lock_step.proofs.NoWait.{no_wait}
-use Rattle.lag_bus.proofs.RoundsOfAWait.{is_wait, lagging_of-wait}
+use Rattle.lag_bus.proofs.IterationsOfAWait.{is_wait, lagging_of-wait}
 use Rattle.lag_bus.proofs.lag.LagBusDrainedBus.wait.Goals as goal
 use Rattle.spc700_exec.specs.declared.bus.TheConstants.{CYCLES_PER_SAMPLE}
 
@@ -45,9 +45,9 @@ returns g c =
     } in
     let small : AreTimers io = rw (← c.self.view_is) at c.cycles_to_wait.ensures.timers in
     let free : late.pending + samples_in clock most < 64 = rw (← c.self.view_is) at c.cycles_to_wait.ensures.free in
-    let tried = c.in-Some.ensures.round in
-    let length : c.in-Some.round ≡ d = sym c.from-2.ensures in
-    let round : look_of_steps (byte_seen chip (lagging_of late io clock counts calls)) tried.0 c.args.cpu.now ≡ Some (c.args.cpu.now, d) =
+    let tried = c.in-Some.ensures.iteration in
+    let length : c.in-Some.iteration ≡ d = sym c.from-2.ensures in
+    let iteration : peek_of_steps (byte_seen chip (lagging_of late io clock counts calls)) tried.0 c.args.cpu.now ≡ Some (c.args.cpu.now, d) =
     (rw (← c.self.view_is) at tried.1) ∙ (λ i. Some (c.args.cpu.now, length i)) in
     let same : c.from.result ≡ d = c.from.ensures ∙ sym c.from-2.ensures in
     let parts = mod-add-div' most c.from.result in
@@ -55,8 +55,8 @@ returns g c =
     let fits : k * d ≤ most = subst (λ (n : ℕ). k * n ≤ most) same whole in
     let fallen : ℕ = samples_in clock (k * d) in
     let moment : c.clock-clock.result ≡ clock = c.clock-clock.ensures.clock in
-    let pends : c.pend_all.new.late ≡ late_with_samples chip late fallen = c.pend_all.ensures ∙ (λ i. late_with_samples chip late (samples_in (moment i) (k * d))) in
+    let pends : c.queue_all.new.late ≡ late_with_samples chip late fallen = c.queue_all.ensures ∙ (λ i. late_with_samples chip late (samples_in (moment i) (k * d))) in
     rw (← c.self.view_is)
-    (is_wait chip c.args.samples c.args.cpu.now (lagging_of late io clock counts calls) (lagging_of c.pend_all.new.late c.wait.new.self.io c.wait.new.self.clock counts c.wait.new.self.calls)
-    most k tried.0 d kept small (rw (← c.self.view_is) at c.cycles_to_wait.ensures.zeros) free (rw (← c.self.view_is) at c.cycles_to_wait.ensures.below) round fits
+    (is_wait chip c.args.samples c.args.cpu.now (lagging_of late io clock counts calls) (lagging_of c.queue_all.new.late c.wait.new.self.io c.wait.new.self.clock counts c.wait.new.self.calls)
+    most k tried.0 d kept small (rw (← c.self.view_is) at c.cycles_to_wait.ensures.zeros) free (rw (← c.self.view_is) at c.cycles_to_wait.ensures.below) iteration fits
     ((λ i. lagging_of (pends i) (c.wait.ensures i).io (c.wait.ensures i).clock counts (c.wait.ensures i).calls) ∙ lagging_of-wait chip late io clock counts calls (k * d) fallen c.self.invariant.same_batches due refl))

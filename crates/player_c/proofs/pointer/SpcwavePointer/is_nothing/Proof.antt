@@ -78,15 +78,15 @@ is_nothing_spec 𝓤 𝓛 𝓜 𝓡 wired =
     enter ! _ _ _ _ _ $ alloc_all ! (λ l. pass_all ! refl ((tt, tt), tt) $
     fsplit3 ! $ move ! (1 ∷ 2 ∷ 3 ∷ []) $ opens ! tt R rb ro (λ ws.
     move ! (1 ∷ []) $ peeks ! R _ (shows 𝓛 R) h ws (λ held. fsplit ! $ move ! (1 ∷ []) $
-    use1 𝓛 (given (TellsHandle h.at h.handle) (‵ (owns_handle h.at h.handle))) (tells 𝓛 h.at h.handle null) $ learn ! (λ told.
+    use1 𝓛 (given (TellsHandle h.at h.handle) (‵ (owns_handle h.at h.handle))) (tells 𝓛 h.at h.handle null) $ learn ! (λ known.
     let Cell = λ (us : List Val). ‵ (cell_at full_share R.mir us rb ro) in
     rewrite ! 2 Cell (lowers.val_is h ws held) refl $
     -- [what the handle's box owns; the fields; the pointer's cell; the open borrow, in three entries; what is left of the reference]
     sets ! (of_opd ! (load ! (through ! refl (fld ! refl (stop !))) (look_in ! 2 (sub ! 0 refl (whole !))))) refl (pointer_good h.at) $
-    sets ! (is ! (bin ! (get ! refl) (lit ! tt) (tests_null h.at told.0)) (null_test h.at).1) refl (tt, tt) $
+    sets ! (is ! (bin ! (get ! refl) (lit ! tt) (tests_null h.at known.0)) (null_test h.at).1) refl (tt, tt) $
     rewrite ! 2 Cell (sym (lowers.val_is h ws held)) refl $ move ! (1 ∷ 0 ∷ []) $ fjoin ! $ move ! (1 ∷ 0 ∷ 2 ∷ 3 ∷ 4 ∷ []) $
     closes ! tt R h ws rb ro $
     returns ! (look_at ! 0 refl) $ free_all ! refl $ move ! (3 ∷ []) $
-    suffices ! _ (ends_at 𝓛 f.ended stayed c z (vbool answer) answer (h, tt) (tt, tt)) $ says_two ! (told.1, refl) $
+    suffices ! _ (ends_at 𝓛 f.ended stayed c z (vbool answer) answer (h, tt) (tt, tt)) $ says_two ! (known.1, refl) $
     group ! 3 $ nothing ! $ move ! (1 ∷ 0 ∷ []) $ join ! $ nothing ! $ move ! (2 ∷ 0 ∷ []) $ join ! $ frame ! $ frame ! $
     feq_i ! _ (vbool answer ∷ []) _ refl $ done !))))))

@@ -18,11 +18,11 @@ returns-clause-wave g c =
     let slots = slots_of server in
     let f = frames_to g.C.Chip.meaning g.C.Chip.saving server in
     let pages = pages_at g.C.Chip.meaning g.C.Chip.saving server in
-    let told = replies slots pages (opened_session pages) script in
+    let known = replies slots pages (opened_session pages) script in
     let whole = length-session f c.requires.run slots pages (opened_session pages) script in
-    let count : played_frames 0 0 script ≡ length (cut_frames f (played_cuts told)) = omega (arith, whole) in
+    let count : played_frames 0 0 script ≡ length (cut_frames f (played_cuts known)) = omega (arith, whole) in
     rw c.new-run.ensures
-    (whole_wave f told _ _ (played_frames 0 0 script) (slice_none f (book_of server).position 0 c.requires.run refl)
+    (whole_wave f known _ _ (played_frames 0 0 script) (slice_none f (book_of server).position 0 c.requires.run refl)
     (ap (λ (b : CutBook). replies slots pages (record { book = after_play b 0; frames = 0 }) script) c.requires.opened) count)
 
 pub returns-clause-report : goal.returns-clause-report

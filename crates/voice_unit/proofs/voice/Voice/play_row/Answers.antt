@@ -7,7 +7,7 @@ use Rattle.voice_unit.specs.Batch.{lane_input, lane_inputs}
 use Rattle.voice_unit.specs.OneSample.{IsStep}
 use Rattle.voice_unit.specs.Play.{IsPlayed, lane_of}
 use Rattle.voice_unit.specs.declared.interface.VoiceOut.{VoiceOut}
-use Rattle.voice_unit.proofs.Glided.{lane_glides}
+use Rattle.voice_unit.proofs.RenderedSpan.{lane_renders_span}
 use Rattle.voice_unit.proofs.Played.{none_played, one_more_played, with_ended-other, with_ended-bound, doubled}
 use Rattle.voice_unit.proofs.voice.Voice.play_row.Goals as goal
 
@@ -26,17 +26,17 @@ pub samples-preserved : goal.samples-preserved
 unfolding lane_input
 samples-preserved c =
     let j : ℕ = c.samples.j in
-    let to : ℕ = c.glide-glided.result.at in
-    let from : j ≤ to = c.glide-glided.ensures.from in
+    let to : ℕ = c.render_span-rendered.result.at in
+    let from : j ≤ to = c.render_span-rendered.ensures.from in
     let below : to < c.args.n = omega (arith, c.if-last-to.false) in
     let place : c.from-place.result ≡ to = c.from-place.ensures in
     let played : (k : ℕ) → c.args.reads.now.clock ≡ counter_at k
     → IsPlayed (lane_of c.args.reads.now c.args.previous.now c.args.self.now k) c.args.reads.now.seen.voice
-    to c.args.made.now.ends c.glide-glided.new.made.ends c.glide-glided.new.made.outs c.glide-glided.new.self =
-    λ k at. c.glide-glided.ensures.played (lane_of c.args.reads.now c.args.previous.now c.args.self.now k) c.args.made.now.ends
+    to c.args.made.now.ends c.render_span-rendered.new.made.ends c.render_span-rendered.new.made.outs c.render_span-rendered.new.self =
+    λ k at. c.render_span-rendered.ensures.played (lane_of c.args.reads.now c.args.previous.now c.args.self.now k) c.args.made.now.ends
     (record {
       over = record { regs = refl; modulated = c.samples.invariant.modulated; memory = refl; table = refl; clock = at; noise = λ i. refl };
-      plainly = lane_glides c.args.reads.now c.args.previous.now c.args.self.now k c.samples.j c.end_from-end.result
+      plainly = lane_renders_span c.args.reads.now c.args.previous.now c.args.self.now k c.samples.j c.end_from-end.result
           (λ i since below. c.plain_samples-plain.ensures i (omega (arith, below, c.end_from-end.ensures.to, c.requires.few)) (c.end_from-end.ensures.plain i since below));
       played = c.samples.invariant.played k at;
     }) in
@@ -44,34 +44,34 @@ samples-preserved c =
     let input : c.input-input.result ≡ lane_inputs c.args.reads.now.seen c.args.reads.now.rows.now c.args.previous.now to = rw whole at (rw place at c.input-input.ensures.value) in
     let step : (k : ℕ) → c.args.reads.now.clock ≡ counter_at k
     → IsStep c.args.reads.now.regs (lane_inputs c.args.reads.now.seen c.args.reads.now.rows.now c.args.previous.now to) c.args.reads.now.memory.now c.args.reads.now.table.now (counter_at (k + to))
-    c.glide-glided.new.self c.play_sample-answer.result c.play_sample-answer.new.self =
+    c.render_span-rendered.new.self c.play_sample-answer.result c.play_sample-answer.new.self =
     λ k at. rw input at (c.play_sample-answer.ensures k at) in
     let out : to_z w16 (of_z w16 c.play_sample-answer.result.out) ≡ c.play_sample-answer.result.out = search rules in
-    let outs_long : length c.glide-glided.new.made.outs ≡ 64 = search rules in
-    let within_outs : to < length c.glide-glided.new.made.outs = rw outs_long (omega (arith, below, c.requires.few)) in
-    let ends_long : length c.glide-glided.new.made.ends ≡ 64 = search rules in
-    let within_ends : to < length c.glide-glided.new.made.ends = rw ends_long (omega (arith, below, c.requires.few)) in
+    let outs_long : length c.render_span-rendered.new.made.outs ≡ 64 = search rules in
+    let within_outs : to < length c.render_span-rendered.new.made.outs = rw outs_long (omega (arith, below, c.requires.few)) in
+    let ends_long : length c.render_span-rendered.new.made.ends ≡ 64 = search rules in
+    let within_ends : to < length c.render_span-rendered.new.made.ends = rw ends_long (omega (arith, below, c.requires.few)) in
     record {
       played = λ k at. rw (place, out, c.mark_ended.ensures) (one_more_played
           (lane_of c.args.reads.now c.args.previous.now c.args.self.now k) c.args.reads.now.seen.voice to
-          c.args.made.now.ends c.glide-glided.new.made.ends c.glide-glided.new.made.outs c.glide-glided.new.self c.play_sample-answer.new.self c.play_sample-answer.result.out c.play_sample-answer.result.ended
+          c.args.made.now.ends c.render_span-rendered.new.made.ends c.render_span-rendered.new.made.outs c.render_span-rendered.new.self c.play_sample-answer.new.self c.play_sample-answer.result.out c.play_sample-answer.result.ended
           (played k at) within_outs within_ends
           (step k at).voice (ap (λ (answer : VoiceOut). answer.out) (step k at).answer_is) (ap (λ (answer : VoiceOut). answer.ended) (step k at).answer_is));
       within = omega (arith, c.if-last-to.false);
       later = λ i above.
           let other : i ≢ to = λ e. absurd (omega (arith, e, above)) in
-          rw c.mark_ended.ensures (with_ended-other c.glide-glided.new.made.ends to c.args.reads.now.seen.voice i c.play_sample-answer.result.ended other
-          ∙ c.glide-glided.ensures.later i (omega (arith, above)) ∙ c.samples.invariant.later i (omega (arith, above, from)));
+          rw c.mark_ended.ensures (with_ended-other c.render_span-rendered.new.made.ends to c.args.reads.now.seen.voice i c.play_sample-answer.result.ended other
+          ∙ c.render_span-rendered.ensures.later i (omega (arith, above)) ∙ c.samples.invariant.later i (omega (arith, above, from)));
       lower = λ i under.
-          let own : slice_index c.glide-glided.new.made.ends to < 2 ^ c.args.reads.now.seen.voice = rw (c.glide-glided.ensures.later to (omega arith), c.samples.invariant.later to from) (c.requires.lower to (omega (arith, below, c.requires.few))) in
-          rw c.mark_ended.ensures (with_ended-bound c.glide-glided.new.made.ends to c.args.reads.now.seen.voice i c.play_sample-answer.result.ended within_ends own (c.glide-glided.ensures.lower i under));
-      modulated = λ modulated i below. rw c.glide-glided.ensures.pitches (c.samples.invariant.modulated modulated i below);
-      outs_long = length-set c.glide-glided.new.made.outs c.from-place.result (to_z w16 (of_z w16 c.play_sample-answer.result.out)) ∙ outs_long;
+          let own : slice_index c.render_span-rendered.new.made.ends to < 2 ^ c.args.reads.now.seen.voice = rw (c.render_span-rendered.ensures.later to (omega arith), c.samples.invariant.later to from) (c.requires.lower to (omega (arith, below, c.requires.few))) in
+          rw c.mark_ended.ensures (with_ended-bound c.render_span-rendered.new.made.ends to c.args.reads.now.seen.voice i c.play_sample-answer.result.ended within_ends own (c.render_span-rendered.ensures.lower i under));
+      modulated = λ modulated i below. rw c.render_span-rendered.ensures.pitches (c.samples.invariant.modulated modulated i below);
+      outs_long = length-set c.render_span-rendered.new.made.outs c.from-place.result (to_z w16 (of_z w16 c.play_sample-answer.result.out)) ∙ outs_long;
       ends_long = c.mark_ended.array_long.1;
     }
 
 pub samples-smaller : goal.samples-smaller
-samples-smaller c = omega (arith, c.samples-test.true, c.glide-glided.ensures.from, c.glide-glided.ensures.to, c.end_from-end.ensures.to)
+samples-smaller c = omega (arith, c.samples-test.true, c.render_span-rendered.ensures.from, c.render_span-rendered.ensures.to, c.end_from-end.ensures.to)
 
 pub returns-clause-played : goal.returns-clause-played
 returns-clause-played c k at = c.samples.invariant.played k at
@@ -83,10 +83,10 @@ returns-then-last-eq0-clause-played c k at =
 pub returns-then-last-to-clause-played : goal.returns-then-last-to-clause-played
 unfolding lane_input
 returns-then-last-to-clause-played c k at =
-    c.glide-glided.ensures.played (lane_of c.args.reads.now c.args.previous.now c.args.self.now k) c.args.made.now.ends
+    c.render_span-rendered.ensures.played (lane_of c.args.reads.now c.args.previous.now c.args.self.now k) c.args.made.now.ends
     (record {
       over = record { regs = refl; modulated = c.samples.invariant.modulated; memory = refl; table = refl; clock = at; noise = λ i. refl };
-      plainly = lane_glides c.args.reads.now c.args.previous.now c.args.self.now k c.samples.j c.end_from-end.result
+      plainly = lane_renders_span c.args.reads.now c.args.previous.now c.args.self.now k c.samples.j c.end_from-end.result
           (λ i since below. c.plain_samples-plain.ensures i (omega (arith, below, c.end_from-end.ensures.to, c.requires.few)) (c.end_from-end.ensures.plain i since below));
       played = c.samples.invariant.played k at;
     })
@@ -94,10 +94,10 @@ returns-then-last-to-clause-played c k at =
 pub returns-then-last-to-clause-level : goal.returns-then-last-to-clause-level
 unfolding lane_input
 returns-then-last-to-clause-level c k at all =
-    let level = c.glide-glided.ensures.level (lane_of c.args.reads.now c.args.previous.now c.args.self.now k) c.args.made.now.ends
+    let level = c.render_span-rendered.ensures.level (lane_of c.args.reads.now c.args.previous.now c.args.self.now k) c.args.made.now.ends
     (record {
       over = record { regs = refl; modulated = c.samples.invariant.modulated; memory = refl; table = refl; clock = at; noise = λ i. refl };
-      plainly = lane_glides c.args.reads.now c.args.previous.now c.args.self.now k c.samples.j c.end_from-end.result
+      plainly = lane_renders_span c.args.reads.now c.args.previous.now c.args.self.now k c.samples.j c.end_from-end.result
           (λ i since below. c.plain_samples-plain.ensures i (omega (arith, below, c.end_from-end.ensures.to, c.requires.few)) (c.end_from-end.ensures.plain i since below));
       played = c.samples.invariant.played k at;
     }) (omega (arith, all, c.samples-test.true)) in

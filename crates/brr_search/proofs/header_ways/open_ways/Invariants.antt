@@ -1,6 +1,0 @@
-use Rattle.std.proofs.Common.{◌≡◌, ◌++◌, drop}
-use Rattle.brr_search.specs.Beam.{opened}
-use Rattle.brr_search.proofs.header_ways.open_ways.Given as goal
-
-abbrev pub invariant-starts : goal.invariant-starts
-invariant-starts l = l.ways.items ++ opened l.header l.place (drop l.place l.starts) ≡ opened l.header 0 l.starts

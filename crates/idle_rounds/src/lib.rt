@@ -1,8 +1,0 @@
-//! Rounds of a loop that only wait: steps of the processor that only look, over any bus.
-#![tactic(auto)]
-
-mod laws;
-mod trial;
-
-pub use laws::rounds_only_wait;
-pub use trial::{Looks, try_round};

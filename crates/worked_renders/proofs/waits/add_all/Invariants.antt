@@ -1,5 +1,0 @@
-use Rattle.std.proofs.Common.{◌*◌, ◌-◌}
-use Rattle.worked_renders.proofs.waits.add_all.Given as goal
-
-abbrev pub decreases-pieces : goal.decreases-pieces
-decreases-pieces g l = 32 * l.render.samples - l.render.bus.machine.clock
