@@ -24,7 +24,7 @@ use Rattle.cut_server.specs.Table.{TableState, Saved, saved_of, live_checkpoints
 use Rattle.cut_server.specs.Server.{lock_step_machines, standing_of, chip_after}
 use Rattle.cut_server.specs.ServerState.{book_of, first_machine, pages_after}
 use Rattle.cut_server.specs.IsServed.{IsOnTheRun}
-use Rattle.cut_server.specs.Renders.{HasHandedOver, IsServing, IsOnCandidate, RunsOut}
+use Rattle.cut_server.specs.Renders.{HasHandedOver, IsServing, IsUnderway, RunsOut}
 
 -- the machines of a chip are lawful
 pub machines_lawful : {S V : Type 0} (chip : ChipMeaning S) (saving : ChipSaving S V) → IsLawfulSaving chip saving → AreLawful (lock_step_machines chip saving)
@@ -152,5 +152,5 @@ taken_is {chip = chip} {saving} {render} {table = table} {at} serving memory is 
     (live ∙ ap (λ k. with_checkpoint before k (pages_of memory)) (sym serving.served.position) ∙ ap (with_checkpoint before render.samples) (pages_here serving memory is))
 
 -- While a render runs to its length.
-pub way_begun : {S : Type 0} (chip : ChipMeaning S) (render : RenderState S) → render.bus.chip_total < 2 ^ 64 → IsOnCandidate chip render render
+pub way_begun : {S : Type 0} (chip : ChipMeaning S) (render : RenderState S) → render.bus.chip_total < 2 ^ 64 → IsUnderway chip render render
 way_begun chip render few = record { samples = refl; whole = refl; rises = omega arith; total = omega (arith, few) }

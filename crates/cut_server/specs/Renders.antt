@@ -24,7 +24,7 @@ pub record IsServing {S V : Type 0} (chip : ChipMeaning S) (saving : ChipSaving 
   pub counted : made ≡ render.bus.chip_total
 
 -- A render is on the way to the same length and machine. Its chip made as many samples as the number of its next one rose by.
-pub record IsOnCandidate {S : Type 0} (chip : ChipMeaning S) (old new : RenderState S) : Type 0 where
+pub record IsUnderway {S : Type 0} (chip : ChipMeaning S) (old new : RenderState S) : Type 0 where
   pub samples : new.samples ≡ old.samples
   pub whole : whole_at_length chip new ≡ whole_at_length chip old
   pub rises : old.bus.chip_sample ≤ new.bus.chip_sample
@@ -32,7 +32,7 @@ pub record IsOnCandidate {S : Type 0} (chip : ChipMeaning S) (old new : RenderSt
 
 -- A render made a piece, and is nearer to its length.
 pub record GoesNearer {S : Type 0} (chip : ChipMeaning S) (old new : RenderState S) : Type 0 where
-  pub way : IsOnCandidate chip old new
+  pub way : IsUnderway chip old new
   pub later : is_at_length new ≡ false → old.bus.machine.clock < new.bus.machine.clock
   pub below : is_at_length new ≡ false → new.bus.machine.clock < CYCLES_PER_SAMPLE * new.samples
 

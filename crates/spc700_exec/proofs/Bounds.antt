@@ -5,7 +5,7 @@ use Rattle.std.proofs.lemmas.Bool.Decides.{nat_tests}
 use Rattle.spc700_table.specs.Opcodes.{row_of}
 use Rattle.spc700_exec.specs.declared.cpu.Cpu.{Cpu}
 use Rattle.spc700_exec.specs.Bus.{BusMeaning, IsLawful, byte_read, after_read, after_write}
-use Rattle.spc700_exec.specs.Script.{Script, Read, Write, End, Time, Cycles, ToSample, cycles_at, without_change, outcome}
+use Rattle.spc700_exec.specs.Script.{Script, Read, Write, End, Time, Cycles, ToSample, cycles_at, after_rest, outcome}
 use Rattle.spc700_exec.specs.Operands.{with_next_pc}
 use Rattle.spc700_exec.specs.Instruction.{instruction, step_unless, script, step_outcome}
 use Rattle.spc700_exec.specs.Length.{IsShort}
@@ -93,7 +93,7 @@ module _ {S : Type 0} (bus : BusMeaning S) (law : IsLawful bus) where
   pub clock-step_outcome-most : (cpu : Cpu) (s : S) → bus.clock (step_outcome bus cpu s).1 ≤ bus.clock s + CYCLES_PER_SAMPLE
   clock-step_outcome-most cpu s = clock-outcome-most 6 (script cpu) (bus.clock s) 0 s (omega arith) (omega arith) (IsShort-script cpu)
 
-  rest_passes : (s : S) (c : ℕ) → 1 ≤ c → bus.clock s + 1 ≤ bus.clock (without_change bus c 0 s)
+  rest_passes : (s : S) (c : ℕ) → 1 ≤ c → bus.clock s + 1 ≤ bus.clock (after_rest bus c 0 s)
   rest_passes s zero some = absurd (omega arith)
   rest_passes s (suc c) some =
       let passed = law.pass_clock s (suc c - 0) in

@@ -1,7 +1,7 @@
 -- For a lawful bus the clock shows how many accesses were made.
 use Rattle.std.proofs.Common.{◌≡◌, ℕ, ◌+◌, ◌-◌, refl, subst, arith}
 use Rattle.spc700_exec.specs.Bus.{BusMeaning, IsLawful, byte_read, after_read, after_write}
-use Rattle.spc700_exec.specs.Script.{Script, Read, Write, End, cycles_at, without_change, outcome}
+use Rattle.spc700_exec.specs.Script.{Script, Read, Write, End, cycles_at, after_rest, outcome}
 use Rattle.spc700_exec.specs.Pieces.{outcome_by_clock}
 
 module _ {S : Type 0} (bus : BusMeaning S) (law : IsLawful bus) where
@@ -26,4 +26,4 @@ module _ {S : Type 0} (bus : BusMeaning S) (law : IsLawful bus) where
       outcome_by_clock-is next start (made + 1) (after_write bus at value s) (omega arith)
   outcome_by_clock-is (End cpu time) start made s e =
       let spent : bus.clock s - start ≡ made = omega arith in
-      subst (λ (k : ℕ). outcome_by_clock bus start (End cpu time) s ≡ (cpu, without_change bus (cycles_at start time) k s)) spent refl
+      subst (λ (k : ℕ). outcome_by_clock bus start (End cpu time) s ≡ (cpu, after_rest bus (cycles_at start time) k s)) spent refl

@@ -20,7 +20,7 @@ use Rattle.spc700_exec.specs.Operations.{Operation, ya, flag_is, OnStatus, OnA, 
 use Rattle.spc700_exec.specs.Forms.{is_none, is_register, is_bit, is_address, is_target, is_source, is_entry}
 use Rattle.spc700_exec.specs.Lines.{branch_end, done, with_nz_of_move, with_ya}
 use Rattle.spc700_exec.specs.Instruction.{line_of}
-use Rattle.spc700_exec.proofs.Steady.{changes_x, peeks_at_x, is_steady, not_both, IsListed}
+use Rattle.spc700_exec.proofs.Steady.{changes_x, looks_at_x, is_steady, not_both, IsListed}
 use Rattle.spc700_exec.proofs.OperandReads.{at_memory, IsFound, Follows, after_addressed}
 use Rattle.spc700_exec.specs.Accesses.{after_access, Side, First, Second, Access, OperandRead, SourceRead, SourceReadHigh, DestinationWrite, DestinationWriteHigh, StackWrite, StackRead, VectorRead, VectorReadHigh, Progress, begun, bytes_of, byte_address, form_of, Makes, operand_reads, source_first, distance_last, if_in_memory, source, destination, entry_number, accesses_of}
 
@@ -119,7 +119,7 @@ module _ (row : OpRow) (start : Cpu) where
   first_then_second : (n : List Access) (next : Both → Cpu → Script) → is_steady row ≡ true → AfterBoth n next → Makes row start (begun start) ((operand_reads First row.first ++ operand_reads Second row.second) ++ n) (addressed row.first start (λ first cpu. addressed row.second cpu (λ second cpu. next (pair first second) cpu)))
   first_then_second n next steady h =
       let t = addressed row.first start (λ first cpu. addressed row.second cpu (λ second cpu. next (pair first second) cpu)) in
-      let apart = not_both (changes_x row.first) (peeks_at_x row.second) (and_parts (not (changes_x row.second && peeks_at_x row.first)) _ steady).1 in
+      let apart = not_both (changes_x row.first) (looks_at_x row.second) (and_parts (not (changes_x row.second && looks_at_x row.first)) _ steady).1 in
       subst (λ (l : List Access). Makes row start (begun start) l t) (sym (append_assoc (operand_reads First row.first) (operand_reads Second row.second) n))
       (first_operand (operand_reads Second row.second ++ n) (λ first cpu. addressed row.second cpu (λ second cpu. next (pair first second) cpu)) (λ first bytes pc y f stays.
       after_addressed row start Second row.second (record { pc = pc; sp = start.sp; first = bytes; second = [] }) y n (λ second cpu. next (pair first second) cpu) refl (λ looks. stays (apart looks)) (λ second more pc z g _. h (pair first second) _ _ f g)))
@@ -127,7 +127,7 @@ module _ (row : OpRow) (start : Cpu) where
   second_then_first : (n : List Access) (next : Both → Cpu → Script) → is_steady row ≡ true → AfterBoth n next → Makes row start (begun start) ((operand_reads Second row.second ++ operand_reads First row.first) ++ n) (addressed row.second start (λ second cpu. addressed row.first cpu (λ first cpu. next (pair first second) cpu)))
   second_then_first n next steady h =
       let t = addressed row.second start (λ second cpu. addressed row.first cpu (λ first cpu. next (pair first second) cpu)) in
-      let apart = not_both (changes_x row.second) (peeks_at_x row.first) (and_parts (not (changes_x row.second && peeks_at_x row.first)) _ steady).0 in
+      let apart = not_both (changes_x row.second) (looks_at_x row.first) (and_parts (not (changes_x row.second && looks_at_x row.first)) _ steady).0 in
       subst (λ (l : List Access). Makes row start (begun start) l t) (sym (append_assoc (operand_reads Second row.second) (operand_reads First row.first) n))
       (second_operand (operand_reads First row.first ++ n) (λ second cpu. addressed row.first cpu (λ first cpu. next (pair first second) cpu)) (λ second bytes pc y g stays.
       after_addressed row start First row.first (record { pc = pc; sp = start.sp; first = []; second = bytes }) y n (λ first cpu. next (pair first second) cpu) refl (λ looks. stays (apart looks)) (λ first more pc z f _. h (pair first second) _ _ f g)))

@@ -8,7 +8,7 @@ use Rattle.spc700_exec.specs.declared.operand.Operand.{Operand}
 use Rattle.spc700_exec.specs.declared.operand.Operand.TheVariants as P
 use Rattle.spc700_exec.specs.Script.{Script, Read}
 use Rattle.spc700_exec.specs.Operands.{direct, next_in_page, call_entry, fetched, fetched_word, read_word, addressed, address_of}
-use Rattle.spc700_exec.proofs.Steady.{changes_x, peeks_at_x}
+use Rattle.spc700_exec.proofs.Steady.{changes_x, looks_at_x}
 use Rattle.spc700_exec.specs.Accesses.{Side, First, Second, Access, OperandRead, PointerRead, Progress, with_bytes, pointer_address, byte_address, form_of, Makes, operand_reads, in_memory}
 
 abbrev pub at_memory : Operand → Bool
@@ -65,7 +65,7 @@ module _ (row : OpRow) (start : Cpu) where
   pointed side form at bytes e h = h ∙ sym (ap (λ f. pointer_address f start bytes) e)
 
   -- a form that gives a register or nothing, and one that gives a byte of the instruction or of memory
-  pub after_addressed : (side : Side) (form : Form) (p : Progress) (x : ℕ) (n : List Access) (next : Operand → Cpu → Script) → form_of side row ≡ form → (peeks_at_x form ≡ true → x ≡ start.x) → Follows side form p x n next → Makes row start (with_bytes side [] p) (operand_reads side form ++ n) (addressed form (addressing p.pc x) next)
+  pub after_addressed : (side : Side) (form : Form) (p : Progress) (x : ℕ) (n : List Access) (next : Operand → Cpu → Script) → form_of side row ≡ form → (looks_at_x form ≡ true → x ≡ start.x) → Follows side form p x n next → Makes row start (with_bytes side [] p) (operand_reads side form ++ n) (addressed form (addressing p.pc x) next)
   after_addressed side F.A p x n next e ex h = h P.A [] p.pc x (record { memory = refl; place = refl }) (λ _. refl)
   after_addressed side F.X p x n next e ex h = h P.X [] p.pc x (record { memory = refl; place = refl }) (λ _. refl)
   after_addressed side F.Y p x n next e ex h = h P.Y [] p.pc x (record { memory = refl; place = refl }) (λ _. refl)

@@ -5,7 +5,7 @@ use Rattle.std.proofs.lemmas.Bool.Decides.{nat_tests}
 use Rattle.spc700_table.specs.declared.OpRow.{OpRow}
 use Rattle.spc700_exec.specs.declared.cpu.Cpu.{Cpu}
 use Rattle.spc700_exec.specs.Bus.{BusMeaning, IsLawful, byte_read, after_read, after_write}
-use Rattle.spc700_exec.specs.Script.{Script, Read, Write, End, Time, Cycles, ToSample, cycles_at, without_change}
+use Rattle.spc700_exec.specs.Script.{Script, Read, Write, End, Time, Cycles, ToSample, cycles_at, after_rest}
 use Rattle.spc700_exec.specs.Accesses.{Access, Progress, after_access, Makes}
 use Rattle.spc700_exec.specs.Pieces.{IsRow, Does}
 use Rattle.spc700_exec.proofs.ByClock.{clock-after_read, clock-after_write}
@@ -16,15 +16,15 @@ module _ {S : Type 0} (bus : BusMeaning S) (law : IsLawful bus) where
   clock-either s cycles made true is = law.pass_clock s (cycles - made)
   clock-either s cycles made false is = grind (arith, nat_tests)
 
-  clock-without_change : (cycles made : ℕ) (s : S) → bus.clock (without_change bus cycles made s) ≡ bus.clock s + (cycles - made)
-  clock-without_change cycles made s = clock-either s cycles made (nat_lt made cycles) refl
+  clock-after_rest : (cycles made : ℕ) (s : S) → bus.clock (after_rest bus cycles made s) ≡ bus.clock s + (cycles - made)
+  clock-after_rest cycles made s = clock-either s cycles made (nat_lt made cycles) refl
 
   -- where a script ends, the rest of its cycles brings the clock on as that of these cycles does, whenever it began
-  at_end : (cpu cpu' : Cpu) (time : Time) (s mid : S) (cycles start : ℕ) → ◌≡◌ {A = Cpu × S} (cpu, without_change bus (cycles_at start time) (bus.clock s - start) s) (cpu', without_change bus cycles (bus.clock mid - start) mid) → bus.clock s + (cycles_at start time - (bus.clock s - start)) ≡ bus.clock mid + (cycles - (bus.clock mid - start))
+  at_end : (cpu cpu' : Cpu) (time : Time) (s mid : S) (cycles start : ℕ) → ◌≡◌ {A = Cpu × S} (cpu, after_rest bus (cycles_at start time) (bus.clock s - start) s) (cpu', after_rest bus cycles (bus.clock mid - start) mid) → bus.clock s + (cycles_at start time - (bus.clock s - start)) ≡ bus.clock mid + (cycles - (bus.clock mid - start))
   at_end cpu cpu' time s mid cycles start does =
-      sym (clock-without_change (cycles_at start time) (bus.clock s - start) s)
+      sym (clock-after_rest (cycles_at start time) (bus.clock s - start) s)
       ∙ ap (λ (p : Cpu × S). bus.clock p.1) does
-      ∙ clock-without_change cycles (bus.clock mid - start) mid
+      ∙ clock-after_rest cycles (bus.clock mid - start) mid
 
   same_clock : (c cycles m n : ℕ) → 1 ≤ c → 1 ≤ cycles → n + (c - (n - 0)) ≡ m + (cycles - (m - 0)) → n + (c - (n - 1)) ≡ m + (cycles - (m - 1)) → n + (c - (n - (n + m))) ≡ m + (cycles - (m - (n + m))) → m ≡ n
   same_clock c cycles m n some more at_0 at_1 later = omega arith

@@ -9,14 +9,14 @@ use Rattle.spc700_exec.specs.Operations.{Operation}
 use Rattle.spc700_exec.specs.Forms.{suits}
 
 -- the forms whose address X enters, and the form that changes X
-abbrev pub peeks_at_x : Form → Bool
-peeks_at_x F.DirectX = true
-peeks_at_x F.AbsX = true
-peeks_at_x F.PtrX = true
-peeks_at_x F.PtrXInc = true
-peeks_at_x F.IndX = true
-peeks_at_x F.AbsPtrX = true
-peeks_at_x _ = false
+abbrev pub looks_at_x : Form → Bool
+looks_at_x F.DirectX = true
+looks_at_x F.AbsX = true
+looks_at_x F.PtrX = true
+looks_at_x F.PtrXInc = true
+looks_at_x F.IndX = true
+looks_at_x F.AbsPtrX = true
+looks_at_x _ = false
 
 abbrev pub changes_x : Form → Bool
 changes_x F.PtrXInc = true
@@ -24,7 +24,7 @@ changes_x _ = false
 
 -- no row looks at X for one operand after the other one, (X)+, has changed it
 abbrev pub is_steady : OpRow → Bool
-is_steady row = not (changes_x row.second && peeks_at_x row.first) && not (changes_x row.first && peeks_at_x row.second)
+is_steady row = not (changes_x row.second && looks_at_x row.first) && not (changes_x row.first && looks_at_x row.second)
 
 pub not_both : (a b : Bool) → not (a && b) ≡ true → b ≡ true → a ≡ false
 not_both false b h hb = refl

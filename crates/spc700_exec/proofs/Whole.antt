@@ -4,7 +4,7 @@ use Rattle.spc700_table.specs.declared.OpRow.{OpRow}
 use Rattle.spc700_table.specs.Opcodes.{row_of}
 use Rattle.spc700_exec.specs.declared.cpu.Cpu.{Cpu}
 use Rattle.spc700_exec.specs.Bus.{BusMeaning, IsLawful}
-use Rattle.spc700_exec.specs.Script.{End, Cycles, without_change, outcome}
+use Rattle.spc700_exec.specs.Script.{End, Cycles, after_rest, outcome}
 use Rattle.spc700_exec.specs.Accesses.{begun, row_accesses}
 use Rattle.spc700_exec.specs.Instruction.{instruction}
 use Rattle.spc700_exec.specs.Lines.{halt_line}
@@ -18,7 +18,7 @@ use Rattle.spc700_exec.specs.declared.bus.TheConstants.{CYCLES_PER_SAMPLE}
 
 module _ {S : Type 0} (bus : BusMeaning S) (law : IsLawful bus) where
   -- the rest of its cycles makes an instruction whole: its accesses passed one cycle each, and that of the opcode one before
-  pub whole_by_rest : (op : ℕ) (cpu cpu' : Cpu) (s mid new : S) (cycles : ℕ) → op < 256 → halts (row_of op).kind ≡ false → new ≡ without_change bus cycles (access_count (row_of op)) mid → IsInstruction bus (instruction (row_of op) cpu) s cpu' cycles mid → IsWholeInstruction bus (row_of op) cpu s cpu' new
+  pub whole_by_rest : (op : ℕ) (cpu cpu' : Cpu) (s mid new : S) (cycles : ℕ) → op < 256 → halts (row_of op).kind ≡ false → new ≡ after_rest bus cycles (access_count (row_of op)) mid → IsInstruction bus (instruction (row_of op) cpu) s cpu' cycles mid → IsWholeInstruction bus (row_of op) cpu s cpu' new
   whole_by_rest op cpu cpu' s mid new cycles below runs rest made = record {
     leads = λ start at.
         let fits : IsRow (row_of op) = IsRow-row_of (row_of op) op refl below runs in
@@ -28,7 +28,7 @@ module _ {S : Type 0} (bus : BusMeaning S) (law : IsLawful bus) where
         let same : bus.clock mid - start ≡ access_count (row_of op) = omega arith in
         sym (outcome_by_clock-is bus law (instruction (row_of op) cpu) start 1 s at)
         ∙ made.does start
-        ∙ ap (λ (k : ℕ). (cpu', without_change bus cycles k mid)) same
+        ∙ ap (λ (k : ℕ). (cpu', after_rest bus cycles k mid)) same
         ∙ ap (λ (x : S). (cpu', x)) (sym rest);
   }
 
@@ -36,8 +36,8 @@ module _ {S : Type 0} (bus : BusMeaning S) (law : IsLawful bus) where
   pub on_registers : (row : OpRow) (after cpu' : Cpu) (s : S) (cycles : ℕ) → IsRow row → cpu' ≡ after → cycles ≡ row.cycles → IsInstruction bus (End after (Cycles row.cycles)) s cpu' cycles s
   on_registers row after cpu' s cycles fits is same = record {
     does = λ start.
-        ap (λ (k : ℕ). (after, without_change bus k (bus.clock s - start) s)) (sym same)
-        ∙ ap (λ (cpu : Cpu). (cpu, without_change bus cycles (bus.clock s - start) s)) (sym is);
+        ap (λ (k : ℕ). (after, after_rest bus k (bus.clock s - start) s)) (sym same)
+        ∙ ap (λ (cpu : Cpu). (cpu, after_rest bus cycles (bus.clock s - start) s)) (sym is);
     some = omega (arith, fits.some);
     few = omega (arith, fits.more, fits.few);
     within = record { calls = omega arith; least = omega arith; most = omega arith };
@@ -47,9 +47,9 @@ module _ {S : Type 0} (bus : BusMeaning S) (law : IsLawful bus) where
   cycles_to_sample start clock at = omega arith
 
   -- a halt, by its line
-  pub halts_by_rest : (row : OpRow) (cpu cpu' : Cpu) (s new : S) (cycles : ℕ) → cpu' ≡ record cpu { halted = true } → cycles ≡ (CYCLES_PER_SAMPLE - bus.clock s % CYCLES_PER_SAMPLE) % CYCLES_PER_SAMPLE + 1 → new ≡ without_change bus cycles 1 s → (start : ℕ) → bus.clock s ≡ start + 1 → outcome bus start 1 (halt_line row cpu) s ≡ (cpu', new)
+  pub halts_by_rest : (row : OpRow) (cpu cpu' : Cpu) (s new : S) (cycles : ℕ) → cpu' ≡ record cpu { halted = true } → cycles ≡ (CYCLES_PER_SAMPLE - bus.clock s % CYCLES_PER_SAMPLE) % CYCLES_PER_SAMPLE + 1 → new ≡ after_rest bus cycles 1 s → (start : ℕ) → bus.clock s ≡ start + 1 → outcome bus start 1 (halt_line row cpu) s ≡ (cpu', new)
   halts_by_rest row cpu cpu' s new cycles halted is rest start at =
       let same : CYCLES_PER_SAMPLE - start % CYCLES_PER_SAMPLE ≡ cycles = sym (is ∙ cycles_to_sample start (bus.clock s) at) in
-      ap (λ (k : ℕ). (record cpu { halted = true }, without_change bus k 1 s)) same
-      ∙ ap (λ (c : Cpu). (c, without_change bus cycles 1 s)) (sym halted)
+      ap (λ (k : ℕ). (record cpu { halted = true }, after_rest bus k 1 s)) same
+      ∙ ap (λ (c : Cpu). (c, after_rest bus cycles 1 s)) (sym halted)
       ∙ ap (λ (x : S). (cpu', x)) (sym rest)

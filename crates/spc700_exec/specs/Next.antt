@@ -2,7 +2,7 @@
 use Rattle.std.specs.Prelude.{ℕ, zero, suc, ◌+◌, List, [], ◌∷◌, ◌++◌, Option, Some, None}
 use Rattle.spc700_exec.specs.declared.cpu.Cpu.{Cpu}
 use Rattle.spc700_exec.specs.Bus.{BusMeaning, byte_read, after_read, after_write}
-use Rattle.spc700_exec.specs.Script.{Script, Read, Write, End, Time, cycles_at, without_change}
+use Rattle.spc700_exec.specs.Script.{Script, Read, Write, End, Time, cycles_at, after_rest}
 use Rattle.spc700_exec.specs.Instruction.{script}
 
 -- what an instruction does next: a read of an address, a write of a byte to an address, or its end with the new registers
@@ -38,5 +38,5 @@ driven_outcome (suc n) bus start made ask got puts s =
     by_action
     (λ at. driven_outcome n bus start (made + 1) ask (got ++ byte_read bus at s ∷ []) puts (after_read bus at s))
     (λ at value. driven_outcome n bus start (made + 1) ask got (suc puts) (after_write bus at value s))
-    (λ cpu time. Some (cpu, without_change bus (cycles_at start time) made s))
+    (λ cpu time. Some (cpu, after_rest bus (cycles_at start time) made s))
     (ask got puts)

@@ -13,14 +13,14 @@ use Rattle.spc700_exec.specs.Accesses.{row_accesses}
 use Rattle.spc700_exec.specs.declared.operand.Pointer.{Pointer}
 use Rattle.spc700_exec.specs.Operands.{direct, next_in_page, sp_after_push}
 use Rattle.spc700_exec.specs.Instruction.{instruction}
-use Rattle.spc700_exec.specs.Script.{Script, Read, Write, End, cycles_at, without_change, outcome}
+use Rattle.spc700_exec.specs.Script.{Script, Read, Write, End, cycles_at, after_rest, outcome}
 use Rattle.spc700_exec.specs.declared.bus.TheConstants.{CYCLES_PER_SAMPLE}
 
 -- the outcome of a script, where the accesses made so far are reported by the clock: for a lawful bus the same as `outcome`
 abbrev pub outcome_by_clock : {S : Type 0} → BusMeaning S → (start : ℕ) → Script → S → Cpu × S
 outcome_by_clock bus start (Read at next) s = outcome_by_clock bus start (next (byte_read bus at s)) (after_read bus at s)
 outcome_by_clock bus start (Write at value next) s = outcome_by_clock bus start next (after_write bus at value s)
-outcome_by_clock bus start (End cpu time) s = (cpu, without_change bus (cycles_at start time) (bus.clock s - start) s)
+outcome_by_clock bus start (End cpu time) s = (cpu, after_rest bus (cycles_at start time) (bus.clock s - start) s)
 
 -- the beginning of a script hands on a value and registers: whatever follows goes on from there
 abbrev pub Gives : {S X : Type 0} → BusMeaning S → ((X → Cpu → Script) → Script) → S → X → Cpu → S → Type 0
@@ -39,7 +39,7 @@ GivesCpu bus part old cpu new =
 -- a script leads to these registers and, once the rest of these cycles has passed, to this bus
 abbrev pub Does : {S : Type 0} → BusMeaning S → Script → S → Cpu → (cycles : ℕ) → S → Type 0
 Does bus script old cpu cycles new =
-    (start : ℕ) → outcome_by_clock bus start script old ≡ (cpu, without_change bus cycles (bus.clock new - start) new)
+    (start : ℕ) → outcome_by_clock bus start script old ≡ (cpu, after_rest bus cycles (bus.clock new - start) new)
 
 -- the word that two reads give, low then high, and the bus after them
 abbrev pub word_read : {S : Type 0} → BusMeaning S → (low high : ℕ) → S → ℕ

@@ -23,12 +23,12 @@ cycles_at start (Cycles n) = n
 cycles_at start ToSample = CYCLES_PER_SAMPLE - start % CYCLES_PER_SAMPLE
 
 -- the bus once the rest of an instruction's cycles has passed, if there is any
-abbrev pub without_change : {S : Type 0} → BusMeaning S → (cycles made : ℕ) → S → S
-without_change bus cycles made s = if nat_lt made cycles then bus.pass s (cycles - made) else s
+abbrev pub after_rest : {S : Type 0} → BusMeaning S → (cycles made : ℕ) → S → S
+after_rest bus cycles made s = if nat_lt made cycles then bus.pass s (cycles - made) else s
 
 -- the registers and the bus after a script that began at a moment of the clock and made some accesses already: each
 -- access passes a cycle and then acts, in order; at the end the rest of the cycles passes
 abbrev pub outcome : {S : Type 0} → BusMeaning S → (start made : ℕ) → Script → S → Cpu × S
 outcome bus start made (Read at next) s = outcome bus start (made + 1) (next (byte_read bus at s)) (after_read bus at s)
 outcome bus start made (Write at value next) s = outcome bus start (made + 1) next (after_write bus at value s)
-outcome bus start made (End cpu time) s = (cpu, without_change bus (cycles_at start time) made s)
+outcome bus start made (End cpu time) s = (cpu, after_rest bus (cycles_at start time) made s)

@@ -3,7 +3,7 @@
 ghost use Rattle.std.specs.Prelude.{◌≡◌, ◌≤◌, false};
 ghost use Rattle.spc700_table.specs.Opcodes.{row_of};
 ghost use Rattle.spc700_exec.specs.declared.cpu.Cpu.{Cpu};
-ghost use Rattle.spc700_exec.specs.Script.{without_change};
+ghost use Rattle.spc700_exec.specs.Script.{after_rest};
 ghost use Rattle.spc700_exec.specs.Instruction.{instruction};
 ghost use Rattle.spc700_exec.specs.Pieces.{HasAccessesLeft, IsInstruction, IsWholeInstruction, access_count, halts};
 
@@ -36,7 +36,7 @@ fn access_count(op: u8) -> u8
 fn pass_rest<B: Bus>(bus: &mut B, cycles: u8, passed: u8)
     requires room { HasAccessesLeft 1 B.means bus.old }
     requires few { cycles ≤ CYCLES_PER_SAMPLE }
-    ensures { bus.new ≡ without_change B.means cycles passed bus.old }
+    ensures { bus.new ≡ after_rest B.means cycles passed bus.old }
 {
     if passed < cycles {
         bus.pass(cycles - passed);
@@ -49,7 +49,7 @@ fn pass_rest<B: Bus>(bus: &mut B, cycles: u8, passed: u8)
 pub fn end_instruction<B: Bus>(bus: &mut B, op: u8, cycles: u8)
     requires room { HasAccessesLeft 1 B.means bus.old }
     requires few { cycles ≤ CYCLES_PER_SAMPLE }
-    ensures rest { bus.new ≡ without_change B.means cycles (access_count (row_of op)) bus.old }
+    ensures rest { bus.new ≡ after_rest B.means cycles (access_count (row_of op)) bus.old }
     ensures whole { (before after : Cpu) (old : B) → halts (row_of op).kind ≡ false
         → IsInstruction B.means (instruction (row_of op) before) old after cycles bus.old
         → IsWholeInstruction B.means (row_of op) before old after bus.new }

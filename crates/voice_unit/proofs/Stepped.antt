@@ -32,10 +32,10 @@ envelope_from-add e r k j (suc i) =
 -- an envelope that rests is left as it is
 pub without_change : (e : EnvelopeState) (r : VoiceRegs) (k samples_until_change j : ℕ) → StaysFor e r.adsr1 r.adsr2 r.gain k samples_until_change → j ≤ samples_until_change → envelope_from e r k j ≡ e
 unfolding envelope_from envelope_after
-without_change e r k samples_until_change zero rests few = refl
-without_change e r k samples_until_change (suc j) rests few =
-    ap (λ (x : EnvelopeState). envelope_step x r.adsr1 r.adsr2 r.gain (counter_at (k + j))) (without_change e r k samples_until_change j rests (omega (arith, few)))
-    ∙ rests j (omega (arith, few))
+without_change e r k samples_until_change zero unchanged few = refl
+without_change e r k samples_until_change (suc j) unchanged few =
+    ap (λ (x : EnvelopeState). envelope_step x r.adsr1 r.adsr2 r.gain (counter_at (k + j))) (without_change e r k samples_until_change j unchanged (omega (arith, few)))
+    ∙ unchanged j (omega (arith, few))
 
 -- each step of a released envelope takes 8 from its level
 released_step : (e : EnvelopeState) (adsr1 adsr2 gain counter : ℕ) → e.mode ≡ Release → envelope_step e adsr1 adsr2 gain counter ≡ record e { level = e.level - 8 }

@@ -28,7 +28,7 @@ loop-v-preserved c =
     let place : c.from-place.result ≡ v = c.from-place.ensures in
     let within : v < length c.loop-v.voices = rw c.loop-v.invariant.eight c.loop-v-test.true in
     let within_answers : v < length c.loop-v.made.last = rw c.loop-v.invariant.eight_answers c.loop-v-test.true in
-    let within_volumes : v < length c.args.volumes.now = rw c.known-volumes c.loop-v-test.true in
+    let within_volumes : v < length c.args.volumes.now = rw c.told-volumes c.loop-v-test.true in
     record {
       remains = λ k s are.
           let before = c.loop-v.invariant.remains k s are in

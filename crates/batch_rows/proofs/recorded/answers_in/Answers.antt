@@ -9,7 +9,7 @@ pub loop-v-preserved : goal.loop-v-preserved
 loop-v-preserved c =
     let v = c.loop-v.v in
     let place : c.from-place.result ≡ c.args.j = c.from-place.ensures in
-    let within : v < length c.args.outs.now = rw c.known-outs c.loop-v-test.true in
+    let within : v < length c.args.outs.now = rw c.told-outs c.loop-v-test.true in
     let within_answers : v < length c.loop-v.answers = rw c.loop-v.invariant.eight c.loop-v-test.true in
     let one : OutRow = get_or c.args.outs.now v record { items = [] } in
     record {
@@ -24,5 +24,5 @@ pub returns : goal.returns
 returns c =
     let all : c.loop-v.v ≡ 8 = search rules in
     let whole : take 8 c.loop-v.answers ≡ c.loop-v.answers = take_all 8 c.loop-v.answers (omega (arith, c.loop-v.invariant.eight)) in
-    let rows : take 8 c.args.outs.now ≡ c.args.outs.now = take_all 8 c.args.outs.now (omega (arith, c.known-outs)) in
+    let rows : take 8 c.args.outs.now ≡ c.args.outs.now = take_all 8 c.args.outs.now (omega (arith, c.told-outs)) in
     rw (whole, rows) at (rw all at c.loop-v.invariant.so_far)

@@ -20,4 +20,4 @@ returns c =
     let x : to_z w16 (of_z w16 (number_at c.args.group 1)) ≡ number_at c.args.group 1 = search rules in
     let y : to_z w16 (of_z w16 (number_at c.args.group 2)) ≡ number_at c.args.group 2 = search rules in
     let z : to_z w16 (of_z w16 (number_at c.args.group 3)) ≡ number_at c.args.group 3 = search rules in
-    rw (a, b, third, d, e, f, g, h, w, x, y, z) (shifted_entries s c.args.group c.known-samples (search rules))
+    rw (a, b, third, d, e, f, g, h, w, x, y, z) (shifted_entries s c.args.group c.told-samples (search rules))

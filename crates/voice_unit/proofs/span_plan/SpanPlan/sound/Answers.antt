@@ -7,18 +7,18 @@ use Rattle.voice_unit.proofs.span_plan.SpanPlan.sound.Goals as goal
 pub returns-then-from-samples_until_change-clause-outs : goal.returns-then-from-samples_until_change-clause-outs
 returns-then-from-samples_until_change-clause-outs c k is j below =
     let still = without_change c.args.self.now.envelope c.args.reads.now.regs (k + c.args.at) c.samples_until_change-samples_until_change.result j
-    (c.samples_until_change-samples_until_change.ensures.rests (k + c.args.at) (c.clock_in-clock.ensures k is)) (omega (arith, below)) in
+    (c.samples_until_change-samples_until_change.ensures.unchanged (k + c.args.at) (c.clock_in-clock.ensures k is)) (omega (arith, below)) in
     rw (level_in, still) (c.sound_at_level.ensures.outs j below)
 
 pub returns-then-from-samples_until_change-clause-envelope : goal.returns-then-from-samples_until_change-clause-envelope
 returns-then-from-samples_until_change-clause-envelope c k is =
     sym (without_change c.args.self.now.envelope c.args.reads.now.regs (k + c.args.at) c.samples_until_change-samples_until_change.result c.args.n
-    (c.samples_until_change-samples_until_change.ensures.rests (k + c.args.at) (c.clock_in-clock.ensures k is)) (omega arith))
+    (c.samples_until_change-samples_until_change.ensures.unchanged (k + c.args.at) (c.clock_in-clock.ensures k is)) (omega arith))
 
 pub returns-then-from-samples_until_change-clause-level : goal.returns-then-from-samples_until_change-clause-level
 returns-then-from-samples_until_change-clause-level c k is =
     let still = without_change c.args.self.now.envelope c.args.reads.now.regs (k + c.args.at) c.samples_until_change-samples_until_change.result (c.args.n - 1)
-    (c.samples_until_change-samples_until_change.ensures.rests (k + c.args.at) (c.clock_in-clock.ensures k is)) (omega arith) in
+    (c.samples_until_change-samples_until_change.ensures.unchanged (k + c.args.at) (c.clock_in-clock.ensures k is)) (omega arith) in
     c.level.ensures.value ∙ sym (ap (λ (x : EnvelopeState). x.level) still)
 
 pub returns-clause-outs : goal.returns-clause-outs
