@@ -1,6 +1,6 @@
 -- What a step shows over a bus that only looks.
 use Rattle.std.proofs.Common.{◌≡◌, ℕ, suc, ◌+◌, ◌-◌, Bool, true, false, ◌&&◌, nat_lt, refl, sym, ap, ◌∙◌, arith, Option, Some, None}
-use Rattle.std.proofs.lemmas.Bool.{and_parts, both_paths}
+use Rattle.std.proofs.lemmas.Bool.{and_parts, both_ways}
 use Rattle.std.specs.Prelude.{if◌then◌else◌, unwrap_or, is_some}
 use Rattle.std.proofs.lemmas.Bool.Decides.{nat_tests}
 use Rattle.spc700_exec.specs.declared.cpu.Cpu.{Cpu}
@@ -50,7 +50,7 @@ module _ {L : Type 0} (sees : L → ℕ → Option ℕ) where
       let clock = clock-rest (nat_lt made n) base made n s refl e in
       let cycles : made + (n - made) ≡ (if nat_lt made n then (peek_meaning sees).pass s (n - made) else s).clock - base = omega arith in
       λ i. Some (cpu, cycles i)
-  peek_of_script-outcome (End cpu ToSample) start base made s halts e idle runs = absurd (both_paths cpu.halted runs halts)
+  peek_of_script-outcome (End cpu ToSample) start base made s halts e idle runs = absurd (both_ways cpu.halted runs halts)
 
   -- a step from clock 0 that only looked, and didn't halt
   pub peek_of_script-step : (cpu next : Cpu) (s t : Peek L) → (next, t) ≡ step_outcome (peek_meaning sees) cpu s → s.clock ≡ 0 → t.idle ≡ true → next.halted ≡ false
