@@ -9,26 +9,26 @@
  *     }
  *     spcwave_close(&player);
  *
- * What you hear is the run of the console's machine from the state in the file: its processor and S-DSP in lock step, with the voices that are
- * muted left out. Frame n is the same whatever was played, sought, marked or muted before: it depends on the file, on the table and on the voices
- * that are muted now, and of spcwave_play_faded on the end and the fade too. The contract of every exported call is proved: as long as you keep the
- * rules, what it answers, what it writes and what it leaves as it was are what stands below. Only tested are what a null pointer does, that the
- * stack below is enough, spcwave_status_text, and that SPCWAVE_OUT_OF_MEMORY is answered for want of memory alone.
+ * What you hear is the run of the console's machine from the state in the file: processor and S-DSP in lock step, without the muted voices. Frame
+ * n is the same whatever was played, sought, marked or muted before. It depends on the file, on the table and on the voices that are muted now.
+ * That of spcwave_play_faded depends on the end and the fade too. The contract of every exported call is proved. As long as you keep the rules,
+ * what it returns, what it writes and what it leaves as it was are what stands below. Only tested are what a null pointer does, that the stack
+ * below is enough, spcwave_status_text, and that SPCWAVE_OUT_OF_MEMORY is returned for want of memory alone.
  *
  * The rules. None of them is checked:
  *  - A player that is passed to a call was opened by spcwave_open and isn't closed yet.
  *  - One call at a time uses a player; this holds for the calls that take a const player too. A player may go from one thread to another by a lock,
- *    by the start or the end of a thread, or by a sequentially consistent atomic. Two players have nothing in common: each may be used in a
- *    thread of its own.
- *  - A pointer leads to as many bytes as the call says. During the call no other thread writes them, or reads those that the call may write; so two
- *    threads may open players from the same file and table. Two pointers of one call lead to different bytes. A null pointer is fine where its
+ *    by the start or the end of a thread, or by a sequentially consistent atomic. Two players share nothing: each may be used in a thread of its
+ *    own.
+ *  - A pointer points to as many bytes as the call says. During the call no other thread writes them, or reads those that the call may write. So two
+ *    threads may open players from the same file and table. Two pointers of one call point to different bytes. A null pointer is fine where its
  *    length, count or size is 0, and only there.
  *  - malloc, realloc and free are of one allocator, and malloc and realloc align a block to each power of two up to 16 that divides its size.
  *  - No call is made from a signal handler, or from a forked child of a process with threads.
- *  - The stack has room for 128 KB in spcwave_open, for 32 KB in every other call.
+ *  - 128 KB of stack are free in spcwave_open, and 32 KB in every other call.
  *
- * Memory. Only spcwave_open takes any: 562 KB, and 260 bytes a page. spcwave_close gives all of it back, and so does spcwave_open itself where it
- * doesn't answer OK. How much is taken and given back is tested, not proved.
+ * Memory. Only spcwave_open allocates any: 562 KB, and 260 bytes a page. spcwave_close frees all of it, and so does spcwave_open itself where it
+ * doesn't return OK. How much is allocated and freed is tested, not proved.
  */
 #ifndef SPCWAVE_H
 #define SPCWAVE_H
@@ -57,7 +57,7 @@ extern "C" {
 #define SPCWAVE_TAG_SIZE 33             /* bytes that the text of any tag fits in, with its zero byte */
 #define SPCWAVE_TAGS 8                  /* the number of tags */
 
-/* What calls answer. */
+/* What calls return. */
 enum spcwave_status {
     SPCWAVE_OK = 0,
     SPCWAVE_SPC_LENGTH = 4,     /* the file hasn't 65,920 to 1,048,576 bytes */
@@ -88,7 +88,7 @@ typedef struct spcwave_frame {
     int16_t left, right;
 } spcwave_frame;
 
-/* What a player is opened with beside its file: begin with SPCWAVE_OPTIONS and change what you want. */
+/* The options of a player: begin with SPCWAVE_OPTIONS and change what you want. */
 typedef struct spcwave_options {
     uint32_t size;          /* sizeof(spcwave_options) */
     uint32_t pages;         /* 256 to 65,536 pages of 256 bytes for marks. The mark of frame 0 takes 256, each other as many as differ from
@@ -104,18 +104,18 @@ typedef struct spcwave_text {
     uint32_t offset, length;
 } spcwave_text;
 
-/* What a file tells of itself: begin with SPCWAVE_INFO. */
+/* What the bytes of a file say: begin with SPCWAVE_INFO. */
 typedef struct spcwave_info {
     uint32_t size;                      /* sizeof(spcwave_info) */
-    uint32_t frames, fade;              /* as spcwave_length tells them */
-    bool tagged;                        /* as spcwave_tagged tells it */
-    bool timed;                         /* whether the tags tell a length; else three minutes stand in for it */
+    uint32_t frames, fade;              /* as spcwave_length gives them */
+    bool tagged;                        /* as spcwave_tagged gives it */
+    bool timed;                         /* whether the tags give a length; else three minutes stand in for it */
     spcwave_text tags[SPCWAVE_TAGS];    /* by enum spcwave_tags */
 } spcwave_info;
 
 #define SPCWAVE_INFO { sizeof(spcwave_info), 0, 0, false, false, { { 0, 0 } } }
 
-/* What shows of a voice at the position. */
+/* What is shown of a voice at the position. */
 typedef struct spcwave_voice_shown {
     uint16_t level;   /* of its envelope, 0 to 2,047: that at which its next sample sounds; but right after the sample in which it was keyed
                          on, the level from before the key-on */
@@ -124,71 +124,71 @@ typedef struct spcwave_voice_shown {
     uint16_t source;  /* the number of its sample in the directory, 0 to 255 */
 } spcwave_voice_shown;
 
-/* Answers the version of the library, as SPCWAVE_VERSION tells that of the header. */
+/* Returns the version of the library, as SPCWAVE_VERSION is that of the header. */
 SPCWAVE_API uint32_t spcwave_version(void);
 
-/* Looks at the bytes of a file without opening it, and takes no memory. Answers OK, and writes `*info`; OUT_OF_RANGE where info->size isn't
+/* Inspects the bytes of a file without opening it, and allocates nothing. Returns OK, and writes `*info`; OUT_OF_RANGE where info->size isn't
  * sizeof(spcwave_info); or SPC_LENGTH or SPC_SIGNATURE, as spcwave_open does. Unless it is OK `*info` stays as it was. */
 SPCWAVE_API uint32_t spcwave_inspect(const uint8_t *spc, size_t spc_length, spcwave_info *info);
 
 /* Opens a player at frame 0 of a tune. `table` is the table of 512 weights by which voices interpolate, 16 bits each, low byte first:
- * spcwave_table.h has the console's. Answers OK, and writes the player to `*player`; OUT_OF_RANGE where an option is out of its range, or
+ * spcwave_table.h has the console's. Returns OK, and writes the player to `*player`; OUT_OF_RANGE where an option is out of its range, or
  * options->size isn't sizeof(spcwave_options); SPC_LENGTH or SPC_SIGNATURE where the bytes are no SPC file; TABLE_LENGTH; or OUT_OF_MEMORY.
  * Unless it is OK `*player` stays as it was. Before the call `*player` may hold anything but an open player: close that one first. Afterwards the
  * file, the table and the options aren't needed any more. */
 SPCWAVE_API uint32_t spcwave_open(spcwave_player **player, const uint8_t *spc, size_t spc_length, const uint8_t *table, size_t table_length,
                                   const spcwave_options *options);
 
-/* Gives back the memory of a player, and sets `*player` to NULL. Where `*player` is NULL already it stays NULL. */
+/* Frees the memory of a player, and sets `*player` to NULL. Where `*player` is NULL already it stays NULL. */
 SPCWAVE_API void spcwave_close(spcwave_player **player);
 
-/* Plays: writes the next frames to `frames`, as many as `count`, but none after SPCWAVE_MAX_FRAMES, and answers how many. The position moves on by
+/* Plays: writes the next frames to `frames`, as many as `count`, but none after SPCWAVE_MAX_FRAMES, and returns how many. The position moves on by
  * as many. The rest of `frames` stays as it was. At each multiple of the options' mark_seconds that the position comes to, it takes a mark. It
  * goes on past the length of the tune, and fades nothing. */
 SPCWAVE_API size_t spcwave_play(spcwave_player *player, spcwave_frame *frames, size_t count);
 
-/* Plays as spcwave_play does, but to the end of the tune, over the last frames of which the sound fades out. Answers 0 from the end on. The end and
- * the fade are those that spcwave_length tells, until spcwave_set_end sets others. */
+/* Plays as spcwave_play does, but to the end of the tune, over the last frames of which the sound fades out. Returns 0 from the end on. The end and
+ * the fade are those that spcwave_length gives, until spcwave_set_end sets others. */
 SPCWAVE_API size_t spcwave_play_faded(spcwave_player *player, spcwave_frame *frames, size_t count);
 
 /* Sets the end of the tune for spcwave_play_faded: `frames` is its length from frame 0 on, 0 to SPCWAVE_MAX_FRAMES, and its last `fade` frames fade
- * out, at most `frames` of them. Answers OK; or OUT_OF_RANGE, and nothing has changed. The position stays where it is. */
+ * out, at most `frames` of them. Returns OK; or OUT_OF_RANGE, and nothing has changed. The position stays where it is. */
 SPCWAVE_API uint32_t spcwave_set_end(spcwave_player *player, uint32_t frames, uint32_t fade);
 
 /* Goes to a frame, 0 to SPCWAVE_MAX_FRAMES. It runs the machine from the position or from a mark, whichever is the nearest at or before the frame:
- * that takes as long as to play the frames between. Answers OK; or OUT_OF_RANGE, and nothing has changed. */
+ * that takes as long as to play the frames between. Returns OK; or OUT_OF_RANGE, and nothing has changed. */
 SPCWAVE_API uint32_t spcwave_seek(spcwave_player *player, uint32_t frame);
 
-/* Goes towards a frame by running at most `max` frames, 1 or more. Answers OK when it is there; NOT_YET when more are left: then the position is
- * where it has come, and the same call goes on from there. All calls together run as many frames as one spcwave_seek would. Answers
+/* Goes towards a frame by running at most `max` frames, 1 or more. Returns OK when it is there; NOT_YET when more are left: then the position is
+ * where it has come, and the same call goes on from there. All calls together run as many frames as one spcwave_seek would. Returns
  * OUT_OF_RANGE where `frame` is above SPCWAVE_MAX_FRAMES or `max` is 0, and nothing has changed. */
 SPCWAVE_API uint32_t spcwave_seek_some(spcwave_player *player, uint32_t frame, uint32_t max);
 
 /* Mutes these voices and no others from now on: bit v is voice v. The player becomes as one that was opened with them and sought to its
  * position, since a muted voice is missing in the echo too; only the end that spcwave_set_end set stays. So it runs the frames up to the position
  * again, and all marks but that of frame 0 are gone. At frame 0 it runs none: where no call may take long, seek to frame 0 first, mute, and
- * come back by spcwave_seek_some. A tune that reads, runs or decodes in the echo's buffer may go another way with other voices. */
+ * come back by spcwave_seek_some. A tune that reads, runs or decodes in the echo buffer may run otherwise with other voices. */
 SPCWAVE_API void spcwave_mute(spcwave_player *player, uint8_t voices);
 
 /* Takes a mark at the position, so that seeks to it or a little after it are quick. There are at most 64 marks, that of frame 0 among them, which
- * always stays; where pages or places run short the oldest others go. If there is no room even then, none is taken. */
+ * always stays; where pages or places run short the oldest others go. If too few are free even then, none is taken. */
 SPCWAVE_API void spcwave_mark(spcwave_player *player);
 
-/* Answers the position: how many frames stand before it. */
+/* Returns the position: how many frames stand before it. */
 SPCWAVE_API uint32_t spcwave_position(const spcwave_player *player);
 
-/* Answers how many pages are free for marks. */
+/* Returns how many pages are free for marks. */
 SPCWAVE_API uint32_t spcwave_free_pages(const spcwave_player *player);
 
-/* Writes the length of the tune by its tags, and how many of its last frames fade out, in frames; 180 seconds and no fade where the tags tell no
+/* Writes the length of the tune by its tags, and how many of its last frames fade out, in frames; 180 seconds and no fade where the tags give no
  * length. spcwave_set_end changes neither. */
 SPCWAVE_API void spcwave_length(const spcwave_player *player, uint32_t *frames, uint32_t *fade);
 
-/* Answers whether the file says that it has tags. Their texts are told either way. */
+/* Returns whether the file says that it has tags. spcwave_tag gives their texts either way. */
 SPCWAVE_API bool spcwave_tagged(const spcwave_player *player);
 
 /* Writes the text of a tag and a zero byte to `text`, which has `size` bytes: the text is cut off where they are too few, and nothing is written
- * where there are none. Answers the length of the whole text, without the zero byte. The text is whatever bytes the file has there, up to the
+ * where there are none. Returns the length of the whole text, without the zero byte. The text is whatever bytes the file has there, up to the
  * first zero byte; it is empty where `tag` is none of enum spcwave_tags. */
 SPCWAVE_API size_t spcwave_tag(const spcwave_player *player, uint32_t tag, char *text, size_t size);
 
@@ -196,10 +196,10 @@ SPCWAVE_API size_t spcwave_tag(const spcwave_player *player, uint32_t tag, char 
  * at frame 0 those of the file. */
 SPCWAVE_API void spcwave_registers(const spcwave_player *player, uint8_t registers[128]);
 
-/* Writes what shows of voice 0 to 7. Answers OK; or OUT_OF_RANGE for another number, and `*voice` stays as it was. */
+/* Writes what is shown of voice 0 to 7. Returns OK; or OUT_OF_RANGE for another number, and `*voice` stays as it was. */
 SPCWAVE_API uint32_t spcwave_voice(const spcwave_player *player, uint32_t number, spcwave_voice_shown *voice);
 
-/* Answers a short English text for a status, in static memory; "unknown status" for any other number. */
+/* Returns a short English text for a status, in static memory; "unknown status" for any other number. */
 static inline const char *spcwave_status_text(uint32_t status) {
     switch (status) {
     case SPCWAVE_OK: return "no error";

@@ -21,7 +21,7 @@ use Rattle.lag_bus.specs.Ready.{is_before_sample, ready_frames, waiting_frames, 
 use Rattle.lag_bus.specs.Book.{may_be_read, may_be_written}
 use Rattle.lag_bus.specs.Late.{late_with_sample}
 use Rattle.lag_bus.specs.Held.{Held, IsHeld, IsKnown, pending_samples, late_of}
-use Rattle.lag_bus.specs.declared.known.ReachCache.{ReachCache}
+use Rattle.lag_bus.specs.declared.reach_cache.ReachCache.{ReachCache}
 use Rattle.chip_form.specs.declared.pages.ReachPages.{ReachPages}
 use Rattle.lag_bus.proofs.MergedRecords.{Each-append, Each-map, Each-filter, Each-merge, merge_voices, merge_event, merge_nothing, length-merge, number_before, later_before, event_after, voice_before, voice_after, voice_number, filter_all, filter_none}
 use Rattle.chip_form.proofs.LawfulSamples.{frame_count_of_samples, is_valid-samples, voices_of_mask}

@@ -4,7 +4,7 @@ use Rattle.std.proofs.lemmas.Bool.{cases_lt, cases_eq}
 use Rattle.std.proofs.lemmas.List.{get_or-replicate, get_or-set_same, get_or-set_other, get_or_past, length-replicate, length-set}
 use Rattle.chip_form.specs.declared.pages.ReachPages.{ReachPages}
 use Rattle.lag_bus.specs.Held.{AreMarks, IsKnown}
-use Rattle.lag_bus.specs.declared.known.ReachCache.{ReachCache}
+use Rattle.lag_bus.specs.declared.reach_cache.ReachCache.{ReachCache}
 
 -- at first each mark is 0
 unmarked : (page : ℕ) → ◌≡◌ {A = ℕ} (slice_index_or (replicate 256 0) page 0) 0

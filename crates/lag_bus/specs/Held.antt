@@ -15,7 +15,7 @@ use Rattle.lag_bus.specs.Merge.{merge}
 use Rattle.lock_step.specs.SampleNumbers.{sample_number}
 use Rattle.lag_bus.specs.Ready.{is_before_sample}
 use Rattle.lag_bus.specs.Late.{Late}
-use Rattle.lag_bus.specs.declared.known.ReachCache.{ReachCache}
+use Rattle.lag_bus.specs.declared.reach_cache.ReachCache.{ReachCache}
 use Rattle.lag_bus.specs.Book.{may_be_read}
 
 pub record Held (S : Type 0) : Type 0 where

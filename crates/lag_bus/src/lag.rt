@@ -19,12 +19,12 @@ ghost use Rattle.lag_bus.specs.Waiting.{byte_seen, samples_in};
 ghost use Rattle.lag_bus.specs.Held.{IsMemoryAlone};
 
 use crate::OutOfMemory;
-use crate::behind::DeferredBus;
+use crate::cached_clock_bus::take_steps;
 use crate::cause::Cause;
 use crate::clocked::ClockedIo;
 use crate::counting::{counts_with_batch, no_counts};
-use crate::late::{DeferredChip, is_in_hand};
-use crate::running::take_steps;
+use crate::deferred_bus::DeferredBus;
+use crate::deferred_chip::{DeferredChip, is_in_hand};
 use crate::saved::BusState;
 use crate::waiting::{counter_is_0, queue_all};
 use aram_core::Aram;

@@ -1,16 +1,16 @@
 //! The bus that lags: it lets samples wait until something needs them, and answers and emits as the machine in lock step does.
 #![tactic(auto)]
 
-mod behind;
+mod cached_clock_bus;
 mod cause;
 mod clocked;
 mod counting;
-mod known;
+mod deferred_bus;
+mod deferred_chip;
 mod lag;
-mod late;
 mod laws;
 mod merging;
-mod running;
+mod reach_cache;
 mod saved;
 mod waiting;
 

@@ -5,7 +5,7 @@ ghost use Rattle.lag_bus.specs.Late.{late_with_samples};
 ghost use Rattle.trace_form.specs.Rooms.{frame_room, record_room};
 ghost use Rattle.chip_form.specs.Limits.{max_samples_of_batch, max_samples_of_chip};
 
-use crate::late::DeferredChip;
+use crate::deferred_chip::DeferredChip;
 use chip_form::Chip;
 use ports_timers::Io;
 

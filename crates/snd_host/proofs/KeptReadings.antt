@@ -9,7 +9,7 @@ use Rattle.std.proofs.lemmas.Option.{slice_get-get_or}
 use Rattle.std.proofs.lemmas.Slice.Eq.{bytes_eq-Decides}
 use Rattle.snd_host.specs.Host.{HostState, OpenedInput, IfKnown}
 use Rattle.snd_host.specs.Files.{File, name_at, place_of}
-use Rattle.snd_host.specs.OpenedInputs.{max_unchanged, read_more, Opens}
+use Rattle.snd_host.specs.OpenedInputs.{max_known_inputs, read_more, Opens}
 use Rattle.snd_host.specs.Readings.{opened_input, readings_of, opened_of}
 use Rattle.snd_host.specs.declared.readings.Reading.{Reading}
 use Rattle.snd_host.specs.declared.readings.Readings.{Readings}
@@ -38,7 +38,7 @@ module _ (files : List File) (past taken later : Option Readings) (current took 
       by None was known = absurd (cc)
       by (Some last) was known = of_past last (sym (inside _ _ known)) taken same_past (kept last was)
 
-  told_next : IfKnown taken (λ before. length (readings_of before.list.items took) ≤ max_unchanged → IsSome later) → (before : List OpenedInput) → opened_of files past current ≡ Some before → length before ≤ max_unchanged → IsSome (opened_of files later next)
+  told_next : IfKnown taken (λ before. length (readings_of before.list.items took) ≤ max_known_inputs → IsSome later) → (before : List OpenedInput) → opened_of files past current ≡ Some before → length before ≤ max_known_inputs → IsSome (opened_of files later next)
   told_next known before is few = by past refl is
     where
       still : (last : Option Readings) → IsSome last → IsSome (opened_of files last next)
@@ -54,7 +54,7 @@ module _ (files : List File) (past taken later : Option Readings) (current took 
 
   pub opens_next : (inputs : List OpenedInput) (a b : HostState) → a.opened ≡ opened_of files past current → b.opened ≡ opened_of files later next →
       IfKnown later (λ after. IsSomeAnd taken (λ before. after.list.items ≡ readings_of before.list.items took)) →
-      IfKnown taken (λ before. length (readings_of before.list.items took) ≤ max_unchanged → IsSome later) →
+      IfKnown taken (λ before. length (readings_of before.list.items took) ≤ max_known_inputs → IsSome later) →
       ((readings : List Reading) → map (opened_input files) (readings_of readings next) ≡ map (opened_input files) readings ++ inputs) → Opens inputs a b
   opens_next inputs a b a_tells b_tells kept known more = record {
     added = λ after is. let was = opened_next inputs kept more after (sym b_tells ∙ is) in (was.0, a_tells ∙ was.1, was.2);

@@ -4,8 +4,8 @@ use Rattle.std.specs.Option.{option_map}
 use Rattle.snd_host.specs.Host.{HostState, Files, OpenedInput, IfKnown}
 
 -- A host that shows which inputs were opened goes on to show it while they are no more than so many.
-abbrev pub max_unchanged : ℕ
-max_unchanged = 16
+abbrev pub max_known_inputs : ℕ
+max_known_inputs = 16
 
 -- an input as it is read whole: to its end, or to its limit and one byte
 abbrev pub whole_input : Files → (name : List ℕ) → (limit : ℕ) → OpenedInput
@@ -21,7 +21,7 @@ read_more (o ∷ p ∷ inputs) count = o ∷ read_more (p ∷ inputs) count
 pub record Opens (inputs : List OpenedInput) (old new : HostState) : Type 0 where
   pub added : IfKnown new.opened (λ after. (before : List OpenedInput) × (old.opened ≡ Some before) × (after ≡ before ++ inputs))
   -- It is still known while there are few.
-  pub known : IfKnown old.opened (λ before. length before + length inputs ≤ max_unchanged → IsSome new.opened)
+  pub known : IfKnown old.opened (λ before. length before + length inputs ≤ max_known_inputs → IsSome new.opened)
 
 -- So many bytes more were read of the input that was opened last; what was known is still known.
 abbrev pub ReadsMore : (count : ℕ) → (old new : HostState) → Type 0

@@ -1,4 +1,4 @@
-//! Worked rows of the assembler and the listing.
+//! Test vectors of the assembler and the listing.
 
 use spc700_asm::{AsmRefusal, LineFault, assemble, disassemble};
 use std::alloc::Global;

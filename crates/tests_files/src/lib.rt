@@ -1,4 +1,4 @@
-//! Worked rows of the file forms, of cut lists, scripts and assembly text, of the hosts in memory, and of what reports and
+//! Test vectors of the file forms, of cut lists, scripts and assembly text, of the hosts in memory, and of what reports and
 //! complaints say. A crate with tests is proved once more for them, so the tests of these stand here, where that costs nothing.
 #![tactic(auto)]
 

@@ -1,4 +1,4 @@
-//! Worked rows of arithmetic, text, memory, the processor's tables, ports and timers, and the parts of a voice. A crate with
+//! Test vectors of arithmetic, text, memory, the processor's tables, ports and timers, and the parts of a voice. A crate with
 //! tests is proved once more for them, so the tests of these stand here, where that costs nothing.
 #![tactic(auto)]
 

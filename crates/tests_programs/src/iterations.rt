@@ -1,4 +1,4 @@
-//! Worked iterations over one page of memory.
+//! Iterations over one page of memory.
 
 use idle_loops::{ReadOnlyBus, try_iteration};
 use spc700_exec::Cpu;

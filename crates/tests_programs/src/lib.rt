@@ -1,4 +1,4 @@
-//! Worked programs over plain memory, over the machine in lock step and over the bus that makes samples late. A crate with
+//! Programs over plain memory, over the machine in lock step and over the bus that defers samples. A crate with
 //! tests is proved once more for them, so the tests of the processor, of the iterations of its loops and of the buses stand here, where that costs nothing.
 #![tactic(auto)]
 

@@ -1,4 +1,4 @@
-//! Worked renders and fades, and worked cuts of a server. A crate with tests is proved once more for them, so the tests of renders stand here, where that
+//! Renders and fades, and cuts of a server. A crate with tests is proved once more for them, so the tests of renders stand here, where that
 //! costs nothing.
 #![tactic(auto)]
 

@@ -1,4 +1,4 @@
-//! Worked rows of a voice, of the echo and of the S-DSP. A crate with tests is proved once more for them, so the tests of
+//! Test vectors of a voice, of the echo and of the S-DSP. A crate with tests is proved once more for them, so the tests of
 //! these stand here, where that costs nothing.
 #![tactic(auto)]
 

@@ -1,5 +1,0 @@
-use Rattle.lag_bus.proofs.PageMarks.{none_known}
-use Rattle.lag_bus.proofs.known.ReachCache.none.Goals as goal
-
-pub returns : goal.returns
-returns c = λ reach. none_known reach 0 0
