@@ -1,16 +1,58 @@
--- Calls one after another, and those that write.
-use Rattle.std.proofs.Common.{◌≡◌, ◌≢◌, ℕ, ◌≤◌, List, [], ◌∷◌, ◌++◌, length, take, drop, refl, sym, ap, ◌∙◌, subst, arith, ◌+◌, ◌<◌, length-drop, length-take, take-add}
+-- Calls one after another, and those that write. What calls agree with goes through them one by one, so two lists that do are one list that does.
+use Rattle.std.proofs.Common.{◌≡◌, ◌≢◌, ℕ, ◌≤◌, List, [], ◌∷◌, ◌++◌, Option, Some, length, take, drop, refl, sym, ap, ◌∙◌, subst, arith, ◌+◌, ◌<◌, length-drop, length-take, take-add}
 use Rattle.std.specs.List.{AllByRecursion}
 use Rattle.std.proofs.lemmas.List.{append_assoc, append-nil, take-append-drop}
 use Rattle.snd_host.specs.Calls.{Call, opened, not_opened, read, not_read, created, not_created, wrote, not_written, finished, not_finished}
-use Rattle.snd_host.specs.Follows.{pushed, IsCut, IsWrite, AreWrites, bytes_written}
+use Rattle.snd_host.specs.Host.{HostState, Files}
+use Rattle.snd_host.specs.History.{AreTrueOf, AreSteadyCalls, rooms_after, rooms_over}
+use Rattle.snd_host.specs.Follows.{pushed, Makes, Since, IsCut, IsWrite, AreWrites, bytes_written}
 
 pub pushed_more : (xs ys before : List Call) → pushed (xs ++ ys) before ≡ pushed ys (pushed xs before)
 pushed_more [] ys before = refl
 pushed_more (x ∷ xs) ys before = pushed_more xs ys (x ∷ before)
 
-pub since_more : (calls : List Call) (call : Call) (before between after : List Call) → between ≡ pushed calls before → after ≡ call ∷ between → after ≡ pushed (calls ++ call ∷ []) before
-since_more calls call before between after first made = made ∙ ap (λ (l : List Call). call ∷ l) first ∙ sym (pushed_more calls (call ∷ []) before)
+rooms_over-append : (xs ys : List Call) (rooms : List ℕ) → rooms_over (xs ++ ys) rooms ≡ rooms_over ys (rooms_over xs rooms)
+rooms_over-append [] ys rooms = refl
+rooms_over-append (x ∷ xs) ys rooms = rooms_over-append xs ys (rooms_after x rooms)
+
+-- calls that agree with what the names hold, one after another
+pub true_then : (files : Files) (xs ys history : List Call) → AreTrueOf files history xs → AreTrueOf files (pushed xs history) ys → AreTrueOf files history (xs ++ ys)
+true_then files [] ys history first second = second
+true_then files (x ∷ xs) ys history first second = (first.0, true_then files xs ys (x ∷ history) first.1 second)
+
+-- and those of a steady host
+pub steady_then : (holds : Option Files) (xs ys history : List Call) (rooms : List ℕ) → AreSteadyCalls holds rooms history xs → AreSteadyCalls holds (rooms_over xs rooms) (pushed xs history) ys →
+    AreSteadyCalls holds rooms history (xs ++ ys)
+steady_then holds [] ys history rooms first second = second
+steady_then holds (x ∷ xs) ys history rooms first second = (first.0, steady_then holds xs ys (x ∷ history) (rooms_after x rooms) first.1 second)
+
+pub since_none : (a : HostState) → Since [] a a
+since_none a = record { calls = refl; holds = refl; true = λ files known. tt; steady = λ rooms known. (tt, known) }
+
+pub since_one : (call : Call) (a b : HostState) → Makes call a b → Since (call ∷ []) a b
+since_one call a b made = record {
+  calls = made.calls;
+  holds = made.holds;
+  true = λ files known. (made.true files known, tt);
+  steady = λ rooms known. let s = made.steady rooms known in ((s.0, tt), s.1);
+}
+
+pub since_then : (xs ys : List Call) (a b c : HostState) → Since xs a b → Since ys b c → Since (xs ++ ys) a c
+since_then xs ys a b c first second = record {
+  calls = second.calls ∙ ap (pushed ys) first.calls ∙ sym (pushed_more xs ys a.calls);
+  holds = second.holds ∙ first.holds;
+  true = λ files known. true_then files xs ys a.calls (first.true files known) (subst (λ (l : List Call). AreTrueOf files l ys) first.calls (second.true files (first.holds ∙ known)));
+  steady = λ rooms known.
+      let one = first.steady rooms known in
+      let two = second.steady (rooms_over xs rooms) one.1 in (
+        steady_then a.holds xs ys a.calls rooms one.0
+        (subst (λ (l : List Call). AreSteadyCalls a.holds (rooms_over xs rooms) l ys) first.calls (subst (λ (h : Option Files). AreSteadyCalls h (rooms_over xs rooms) b.calls ys) first.holds two.0)),
+        two.1 ∙ ap (λ (l : List ℕ). Some l) (sym (rooms_over-append xs ys rooms)),
+      );
+}
+
+pub since_more : (calls : List Call) (call : Call) (a b c : HostState) → Since calls a b → Makes call b c → Since (calls ++ call ∷ []) a c
+since_more calls call a b c first made = since_then calls (call ∷ []) a b c first (since_one call b c made)
 
 pub no_writes : (file : ℕ) → AreWrites file [] []
 no_writes file = record { each = tt; joined = refl }

@@ -4,17 +4,13 @@ use Rattle.std.specs.List.{list_any}
 use Rattle.std.specs.Option.{option_map, option_map_or}
 use Rattle.std.proofs.Common.{sym, ap, ◌∙◌}
 use Rattle.std.proofs.lemmas.List.{length-map}
-use Rattle.snd_host.specs.Host.{HostState, IfKnown, Output}
-use Rattle.snd_host.specs.Files.{File, bytes_at, content_of}
+use Rattle.snd_host.specs.Host.{HostState, Files, IfKnown, Output}
+use Rattle.snd_host.specs.History.{ended_of}
+use Rattle.snd_host.specs.Files.{File, content_of}
 use Rattle.snd_host.specs.declared.memory.MemHost.{MemHost}
-use Rattle.snd_host.specs.Readings.{opened_of}
+use Rattle.snd_host.specs.Readings.{opened_of, left_by}
 use Rattle.snd_host.specs.declared.readings.Reading.{Reading}
 use Rattle.snd_host.specs.declared.memory.Slot.{Slot}
-
--- what is left of a reading
-abbrev pub left_of : List File → Option Reading → List ℕ
-left_of files None = []
-left_of files (Some reading) = drop reading.at (bytes_at files reading.index)
 
 -- the input that can be read: the last one that was opened, where no call of `open_in` has failed since
 abbrev pub current_of : MemHost → Option Reading
@@ -35,7 +31,7 @@ abbrev pub memory_state : MemHost → HostState
 memory_state host = record {
   calls = host.log.calls;
   holds = Some (content_of host.files.items);
-  left = Some (left_of host.files.items host.last);
+  left = Some (left_by host.files.items host.last);
   opened = opened_of host.files.items host.past host.last;
   given = Some (record { report = host.report.bytes.items; complaint = host.complaint.bytes.items; created = map output_of host.created.items });
   current = option_map (λ _. host.newest) (current_of host);
@@ -104,3 +100,11 @@ pub tells_each_lem : (host : MemHost) → IfKnown (memory_state host).given (λ 
 tells_each_lem host given known =
     let same : map output_of host.created.items ≡ given.created = cc in
     sym (ap length same) ∙ length-map host.created.items output_of ∙ sym (length-map host.created.items (λ slot. slot.ended))
+
+-- what the names hold
+abbrev pub names_of : MemHost → Files
+names_of host = content_of host.files.items
+
+-- an output was ended where its end was called
+pub counted_lem : (host : MemHost) → (memory_state host).ended ≡ ended_of (memory_state host).calls
+counted_lem host = sym host.ended_is

@@ -1,7 +1,7 @@
 // A host in memory that gives and takes one byte at a time.
-ghost use Rattle.std.specs.Prelude.{◌≡◌, ◌≤◌, []};
-ghost use Rattle.snd_host.specs.Memory.{memory_state};
-ghost use Rattle.snd_host.specs.Drip.{drip_state, inside};
+ghost use Rattle.std.specs.Prelude.{◌≡◌, ◌≤◌};
+ghost use Rattle.snd_host.specs.History.{ended_of, left_of};
+ghost use Rattle.snd_host.specs.Memory.{memory_state, names_of};
 
 use crate::{
     Failed, Host, InFile, Log, MemHost, OutFile, note_create, note_finish, note_open, note_read,
@@ -10,23 +10,26 @@ use crate::{
 
 /// A host in memory whose reads give at most one byte, and whose writes take at most one.
 ///
-/// It shows all that the host inside shows, and counts faults as that host does. Its calls are those that were made of it.
+/// It shows all that the host inside shows, and counts faults as that host does. Its calls are those of the host inside, up to then, and after them those
+/// that were made of it.
 #[derive(Drop)]
 pub struct DripHost {
     host: MemHost,
     log: Log,
+    ghost ended_is: { ended_of log.calls ≡ ended_of (memory_state host).calls },
+    ghost left_is: { left_of (names_of host) log.calls ≡ left_of (names_of host) (memory_state host).calls },
 }
 
 impl DripHost {
-    /// This host, one byte at a time, of which no call was made yet.
+    ghost use Rattle.snd_host.specs.Drip.{drip_state, inside};
+
+    /// This host, one byte at a time.
     pub fn new(host: MemHost) -> DripHost
-        ensures state { drip_state result ≡ record (memory_state host) { calls = [] } }
+        ensures state { drip_state result ≡ memory_state host }
         ensures inside { inside result ≡ host }
     {
-        DripHost {
-            host,
-            log: Log::none(),
-        }
+        let log = host.calls_made();
+        DripHost { host, log }
     }
 
     /// The host inside.
@@ -40,8 +43,10 @@ impl DripHost {
 // The clauses of each call are the trait's, and then that the host inside counts it as one call; of `read` and `write`, that
 // they move at most one byte.
 impl Host for DripHost {
-    ghost use Rattle.std.specs.Prelude.{◌≢◌, ◌-◌, ◌+◌, ◌<◌, ◌∷◌, ◌++◌, false, true, length, take, drop, Some, None, IsSome, IsOk, IfOk, OnOk, OnErr, is_err, slice_get, slice_index, slice_set};
+    ghost use Rattle.std.specs.Prelude.{◌≢◌, ◌-◌, ◌+◌, ◌<◌, ◌∷◌, ◌++◌, false, true, length, take, drop, [], Some, None, IsSome, IsOk, IfOk, OnOk, OnErr, is_err, slice_get, slice_index, slice_set};
     ghost use Rattle.snd_host.specs.Calls.{open_call, read_call, create_call, write_call, finish_call};
+    ghost use Rattle.snd_host.specs.Drip.{drip_state, inside, drip_counted_lem};
+    ghost use Rattle.snd_host.specs.Follows.{Makes};
     ghost use Rattle.snd_host.specs.OpenedInputs.{Opens, ReadsMore};
     ghost use Rattle.snd_host.specs.Host.{IfKnown, HasCause, CountsWrite, EndsByWrite, IsOpen, ChangesInputs, ChangesOutputs, KeepsRooms, Writes, max_outputs, longest_output_name};
     ghost use Rattle.snd_host.specs.Memory.{tells_each_lem, CountsCall};
@@ -49,6 +54,8 @@ impl Host for DripHost {
     ghost state = { drip_state };
 
     ghost tells_each = { λ host. tells_each_lem (inside host) };
+
+    ghost counted = { drip_counted_lem };
 
     fn open_in(&mut self, name: &str) -> Result<InFile, Failed>
         ensures current { IfOk result (λ file. (drip_state self.new).current ≡ Some file.0) }
@@ -62,7 +69,7 @@ impl Host for DripHost {
         ensures others { ChangesInputs (drip_state self.old) (drip_state self.new) }
         ensures cause { HasCause (drip_state self.old).faults.inputs (drip_state self.new).faults.inputs result }
         ensures last { (drip_state self.new).failed_last ≡ is_err result }
-        ensures made { (drip_state self.new).calls ≡ open_call (λ file. file.0) name.now result ∷ (drip_state self.old).calls }
+        ensures made { Makes (open_call (λ file. file.0) name.now result) (drip_state self.old) (drip_state self.new) }
         ensures steady { IsSome (drip_state self.old).steady →
             IfKnown (drip_state self.old).holds (λ files. IsSome (files name.now) → IsOk result) }
         ensures counted { CountsCall (inside self.old) (inside self.new) }
@@ -89,7 +96,7 @@ impl Host for DripHost {
         ensures others { ChangesInputs (drip_state self.old) (drip_state self.new) }
         ensures cause { HasCause (drip_state self.old).faults.inputs (drip_state self.new).faults.inputs result }
         ensures last { (drip_state self.new).failed_last ≡ is_err result }
-        ensures made { (drip_state self.new).calls ≡ read_call file.0 (length buf.old) buf.new result ∷ (drip_state self.old).calls }
+        ensures made { Makes (read_call file.0 (length buf.old) buf.new result) (drip_state self.old) (drip_state self.new) }
         ensures steady { IsSome (drip_state self.old).steady → IsOk result }
         ensures at_most_one { IfOk result (λ count. count ≤ 1) }
         ensures counted { CountsCall (inside self.old) (inside self.new) }
@@ -113,7 +120,7 @@ impl Host for DripHost {
         ensures notes { (drip_state self.new).faults.notes ≡ (drip_state self.old).faults.notes }
         ensures cause { HasCause (drip_state self.old).faults.outputs (drip_state self.new).faults.outputs result }
         ensures last { (drip_state self.new).failed_last ≡ is_err result }
-        ensures made { (drip_state self.new).calls ≡ create_call (λ file. file.0) name.now result ∷ (drip_state self.old).calls }
+        ensures made { Makes (create_call (λ file. file.0) name.now result) (drip_state self.old) (drip_state self.new) }
         ensures steady { IfKnown (drip_state self.old).steady (λ rooms.
             length (drip_state self.old).ended + 2 < length rooms → length name.now ≤ longest_output_name → IsOk result) }
         ensures rooms { KeepsRooms (drip_state self.old) (drip_state self.new) }
@@ -132,7 +139,7 @@ impl Host for DripHost {
         ensures unwritten { OnErr result (Writes file.0 [] (drip_state self.old) (drip_state self.new)) }
         ensures cause { CountsWrite file.0 (drip_state self.old).faults (drip_state self.new).faults result }
         ensures last { EndsByWrite file.0 (drip_state self.old) (drip_state self.new) result }
-        ensures made { (drip_state self.new).calls ≡ write_call file.0 piece.now result ∷ (drip_state self.old).calls }
+        ensures made { Makes (write_call file.0 piece.now result) (drip_state self.old) (drip_state self.new) }
         ensures steady { IfKnown (drip_state self.old).steady (λ rooms. length piece.now ≤ slice_index rooms file.0 → IsOk result) }
         ensures at_most_one { IfOk result (λ count. count ≤ 1) }
         ensures counted { CountsCall (inside self.old) (inside self.new) }
@@ -153,7 +160,7 @@ impl Host for DripHost {
         ensures notes { (drip_state self.new).faults.notes ≡ (drip_state self.old).faults.notes }
         ensures cause { HasCause (drip_state self.old).faults.outputs (drip_state self.new).faults.outputs result }
         ensures last { (drip_state self.new).failed_last ≡ is_err result }
-        ensures made { (drip_state self.new).calls ≡ finish_call file.0 result ∷ (drip_state self.old).calls }
+        ensures made { Makes (finish_call file.0 result) (drip_state self.old) (drip_state self.new) }
         ensures steady { IsSome (drip_state self.old).steady → IsOk result }
         ensures rooms { KeepsRooms (drip_state self.old) (drip_state self.new) }
         ensures counted { CountsCall (inside self.old) (inside self.new) }

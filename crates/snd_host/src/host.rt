@@ -1,6 +1,8 @@
 // The outside as the program sees it: inputs that are read by name, and outputs that are written in order.
 ghost use Rattle.std.specs.Prelude.{◌≡◌, ◌≢◌, ◌+◌, ◌-◌, ◌<◌, ◌≤◌, ℕ, List, [], ◌∷◌, ◌++◌, length, take, drop, true, false, Option, Some, IsSome, IsOk, IfOk, OnOk, OnErr, is_err, slice_get, slice_index, slice_set};
 ghost use Rattle.snd_host.specs.Calls.{open_call, read_call, create_call, write_call, finish_call};
+ghost use Rattle.snd_host.specs.Follows.{Makes};
+ghost use Rattle.snd_host.specs.History.{ended_of};
 ghost use Rattle.snd_host.specs.OpenedInputs.{Opens, ReadsMore};
 ghost use Rattle.snd_host.specs.Host.{HostState, Given, IfKnown, HasCause, CountsWrite, EndsByWrite, IsOpen, ChangesInputs, ChangesOutputs, KeepsRooms, Writes, max_outputs, longest_output_name};
 
@@ -44,7 +46,7 @@ pub trait Host {
         ensures others { ChangesInputs (state self.old) (state self.new) }
         ensures cause { HasCause (state self.old).faults.inputs (state self.new).faults.inputs result }
         ensures last { (state self.new).failed_last ≡ is_err result }
-        ensures made { (state self.new).calls ≡ open_call (λ file. file.0) name.now result ∷ (state self.old).calls }
+        ensures made { Makes (open_call (λ file. file.0) name.now result) (state self.old) (state self.new) }
         // A steady host fails only at a name that is not there.
         ensures steady { IsSome (state self.old).steady →
             IfKnown (state self.old).holds (λ files. IsSome (files name.now) → IsOk result) };
@@ -67,7 +69,7 @@ pub trait Host {
         ensures others { ChangesInputs (state self.old) (state self.new) }
         ensures cause { HasCause (state self.old).faults.inputs (state self.new).faults.inputs result }
         ensures last { (state self.new).failed_last ≡ is_err result }
-        ensures made { (state self.new).calls ≡ read_call file.0 (length buf.old) buf.new result ∷ (state self.old).calls }
+        ensures made { Makes (read_call file.0 (length buf.old) buf.new result) (state self.old) (state self.new) }
         ensures steady { IsSome (state self.old).steady → IsOk result };
 
     /// Empties or makes the named file, and adds an output of this name, without bytes and not ended.
@@ -83,7 +85,7 @@ pub trait Host {
         ensures notes { (state self.new).faults.notes ≡ (state self.old).faults.notes }
         ensures cause { HasCause (state self.old).faults.outputs (state self.new).faults.outputs result }
         ensures last { (state self.new).failed_last ≡ is_err result }
-        ensures made { (state self.new).calls ≡ create_call (λ file. file.0) name.now result ∷ (state self.old).calls }
+        ensures made { Makes (create_call (λ file. file.0) name.now result) (state self.old) (state self.new) }
         // A steady host fails only past its rooms or at a name that is longer than the longest.
         ensures steady { IfKnown (state self.old).steady (λ rooms.
             length (state self.old).ended + 2 < length rooms → length name.now ≤ longest_output_name → IsOk result) }
@@ -98,7 +100,7 @@ pub trait Host {
         ensures unwritten { OnErr result (Writes file.0 [] (state self.old) (state self.new)) }
         ensures cause { CountsWrite file.0 (state self.old).faults (state self.new).faults result }
         ensures last { EndsByWrite file.0 (state self.old) (state self.new) result }
-        ensures made { (state self.new).calls ≡ write_call file.0 piece.now result ∷ (state self.old).calls }
+        ensures made { Makes (write_call file.0 piece.now result) (state self.old) (state self.new) }
         // A steady host fails only at a piece that is longer than the room.
         ensures steady { IfKnown (state self.old).steady (λ rooms. length piece.now ≤ slice_index rooms file.0 → IsOk result) };
 
@@ -113,10 +115,13 @@ pub trait Host {
         ensures notes { (state self.new).faults.notes ≡ (state self.old).faults.notes }
         ensures cause { HasCause (state self.old).faults.outputs (state self.new).faults.outputs result }
         ensures last { (state self.new).failed_last ≡ is_err result }
-        ensures made { (state self.new).calls ≡ finish_call file.0 result ∷ (state self.old).calls }
+        ensures made { Makes (finish_call file.0 result) (state self.old) (state self.new) }
         ensures steady { IsSome (state self.old).steady → IsOk result }
         ensures rooms { KeepsRooms (state self.old) (state self.new) };
 
     /// Where it is known what the outputs were given, it is known of each created one.
     ghost tells_each: { (host : Self) → IfKnown (state host).given (λ given. length given.created ≡ length (state host).ended) };
+
+    /// An output was ended where a call ended it.
+    ghost counted: { (host : Self) → (state host).ended ≡ ended_of (state host).calls };
 }

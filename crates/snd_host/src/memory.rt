@@ -1,7 +1,10 @@
 // A host in memory, whose calls fail where a test wants it.
-ghost use Rattle.std.specs.Prelude.{◌≡◌, ◌+◌, ◌≤◌, vec_len, vec_capacity, string_bytes, string_capacity, []};
+ghost use Rattle.std.specs.Prelude.{◌≡◌, ◌+◌, ◌≤◌, vec_len, vec_capacity, string_bytes, string_capacity, [], map};
 ghost use Rattle.std.specs.VecDeque.{deque_len};
+ghost use Rattle.snd_host.specs.Files.{content_of};
+ghost use Rattle.snd_host.specs.History.{ended_of, left_of};
 ghost use Rattle.snd_host.specs.Host.{longest_output_name};
+ghost use Rattle.snd_host.specs.Readings.{left_by};
 
 use crate::files::{bytes_of, copy_front, count_call, find_file};
 use crate::host::LONGEST_OUTPUT_NAME;
@@ -72,6 +75,8 @@ pub struct MemHost {
     failed_last: bool,
     log: Log,
     ghost created_reserved: { vec_len created + deque_len spare ≤ vec_capacity created },
+    ghost ended_is: { ended_of log.calls ≡ map (λ slot. slot.ended) created.items },
+    ghost left_is: { left_of (content_of files.items) log.calls ≡ left_by files.items last },
 }
 
 impl Sink {
@@ -242,6 +247,13 @@ impl MemHost {
         self.calls
     }
 
+    /// The calls that were made of it.
+    pub(crate) fn calls_made(&self) -> Log
+        ensures { result.calls ≡ (memory_state self.now).calls }
+    {
+        self.log.same()
+    }
+
     /// How many bytes more this output takes.
     fn room(&self, number: u32) -> usize
         requires { IsOpen (memory_state self.now).ended number }
@@ -263,13 +275,16 @@ impl MemHost {
 impl Host for MemHost {
     ghost use Rattle.std.specs.Prelude.{◌≢◌, ◌-◌, ◌<◌, ◌∷◌, ◌++◌, ◌||◌, not, true, false, nat_lt, length, take, drop, Option, Some, None, IsSome, is_err, IsOk, IfOk, OnOk, OnErr, slice_get, slice_index, slice_set};
     ghost use Rattle.snd_host.specs.Calls.{open_call, read_call, create_call, write_call, finish_call};
+    ghost use Rattle.snd_host.specs.Follows.{Makes};
     ghost use Rattle.snd_host.specs.OpenedInputs.{Opens, ReadsMore};
     ghost use Rattle.snd_host.specs.Host.{IfKnown, HasCause, CountsWrite, EndsByWrite, IsOpen, ChangesInputs, ChangesOutputs, KeepsRooms, Writes, rooms_less, max_outputs};
-    ghost use Rattle.snd_host.specs.Memory.{memory_state, tells_each_lem, rooms_of, is_listed, CountsCall, has_input, is_full};
+    ghost use Rattle.snd_host.specs.Memory.{memory_state, tells_each_lem, counted_lem, rooms_of, is_listed, CountsCall, has_input, is_full};
 
     ghost state = { memory_state };
 
     ghost tells_each = { tells_each_lem };
+
+    ghost counted = { counted_lem };
 
     fn open_in(&mut self, name: &str) -> Result<InFile, Failed>
         ensures current { IfOk result (λ file. (memory_state self.new).current ≡ Some file.0) }
@@ -284,7 +299,7 @@ impl Host for MemHost {
         ensures others { ChangesInputs (memory_state self.old) (memory_state self.new) }
         ensures cause { HasCause (memory_state self.old).faults.inputs (memory_state self.new).faults.inputs result }
         ensures last { (memory_state self.new).failed_last ≡ is_err result }
-        ensures made { (memory_state self.new).calls ≡ open_call (λ file. file.0) name.now result ∷ (memory_state self.old).calls }
+        ensures made { Makes (open_call (λ file. file.0) name.now result) (memory_state self.old) (memory_state self.new) }
         ensures steady { IsSome (memory_state self.old).steady →
             IfKnown (memory_state self.old).holds (λ files. IsSome (files name.now) → IsOk result) }
         // It fails exactly where its number is listed or no input has the name.
@@ -333,7 +348,7 @@ impl Host for MemHost {
         ensures others { ChangesInputs (memory_state self.old) (memory_state self.new) }
         ensures cause { HasCause (memory_state self.old).faults.inputs (memory_state self.new).faults.inputs result }
         ensures last { (memory_state self.new).failed_last ≡ is_err result }
-        ensures made { (memory_state self.new).calls ≡ read_call file.0 (length buf.old) buf.new result ∷ (memory_state self.old).calls }
+        ensures made { Makes (read_call file.0 (length buf.old) buf.new result) (memory_state self.old) (memory_state self.new) }
         ensures steady { IsSome (memory_state self.old).steady → IsOk result }
         // It fails exactly where its number is listed.
         ensures fails { is_err result ≡ is_listed self.old }
@@ -376,7 +391,7 @@ impl Host for MemHost {
         ensures notes { (memory_state self.new).faults.notes ≡ (memory_state self.old).faults.notes }
         ensures cause { HasCause (memory_state self.old).faults.outputs (memory_state self.new).faults.outputs result }
         ensures last { (memory_state self.new).failed_last ≡ is_err result }
-        ensures made { (memory_state self.new).calls ≡ create_call (λ file. file.0) name.now result ∷ (memory_state self.old).calls }
+        ensures made { Makes (create_call (λ file. file.0) name.now result) (memory_state self.old) (memory_state self.new) }
         ensures steady { IfKnown (memory_state self.old).steady (λ rooms.
             length (memory_state self.old).ended + 2 < length rooms → length name.now ≤ longest_output_name → IsOk result) }
         ensures rooms { KeepsRooms (memory_state self.old) (memory_state self.new) }
@@ -409,7 +424,7 @@ impl Host for MemHost {
         ensures unwritten { OnErr result (Writes file.0 [] (memory_state self.old) (memory_state self.new)) }
         ensures cause { CountsWrite file.0 (memory_state self.old).faults (memory_state self.new).faults result }
         ensures last { EndsByWrite file.0 (memory_state self.old) (memory_state self.new) result }
-        ensures made { (memory_state self.new).calls ≡ write_call file.0 piece.now result ∷ (memory_state self.old).calls }
+        ensures made { Makes (write_call file.0 piece.now result) (memory_state self.old) (memory_state self.new) }
         ensures steady { IfKnown (memory_state self.old).steady (λ rooms.
             length piece.now ≤ slice_index rooms file.0 → IsOk result) }
         // It fails exactly where its number is listed or the piece is longer than the room.
@@ -457,7 +472,7 @@ impl Host for MemHost {
         ensures notes { (memory_state self.new).faults.notes ≡ (memory_state self.old).faults.notes }
         ensures cause { HasCause (memory_state self.old).faults.outputs (memory_state self.new).faults.outputs result }
         ensures last { (memory_state self.new).failed_last ≡ is_err result }
-        ensures made { (memory_state self.new).calls ≡ finish_call file.0 result ∷ (memory_state self.old).calls }
+        ensures made { Makes (finish_call file.0 result) (memory_state self.old) (memory_state self.new) }
         ensures steady { IsSome (memory_state self.old).steady → IsOk result }
         ensures rooms { KeepsRooms (memory_state self.old) (memory_state self.new) }
         // It fails exactly where its number is listed.

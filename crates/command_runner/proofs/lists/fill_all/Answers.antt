@@ -11,7 +11,7 @@ use Rattle.command_runner.proofs.Making.{in_turn_done, in_turn_then}
 use Rattle.command_runner.specs.OutputCalls.{MakesInTurn}
 use Rattle.command_runner.proofs.Listing.{next_place}
 use Rattle.command_runner.proofs.OutputsMade.{in_turn_more, in_turn_one as in_turn_of_one, in_turn_stopped}
-use Rattle.command_runner.proofs.Sequences.{since_then}
+use Rattle.snd_host.proofs.CallsInOrder.{since_none, since_then}
 use Rattle.command_runner.proofs.lists.fill_all.Goals as goal
 
 pub loop-output-preserved : goal.loop-output-preserved

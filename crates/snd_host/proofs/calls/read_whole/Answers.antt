@@ -2,13 +2,29 @@ use Rattle.std.proofs.Common.{rules, ◌≡◌, ◌+◌, ◌≤◌, ◌++◌, �
 use Rattle.std.proofs.lemmas.List.{drop-drop, places, length-append}
 use Rattle.std.proofs.lemmas.Result.{err_from_is_err_and}
 use Rattle.snd_host.specs.Calls.{read, opened as opened_file}
-use Rattle.snd_host.proofs.CallsInOrder.{since_more}
+use Rattle.snd_host.proofs.CallsInOrder.{since_one, since_more}
 use Rattle.snd_host.proofs.Taking.{open_failed, read_failed, read_ended, too_long, no_memory, each_more, joined_more, some_front, length_taken, same_front}
 use Rattle.snd_host.proofs.WholeInput.{some_is, none_unless, front_is_whole, is_some_and, length_front, read_more, inputs_then}
 use Rattle.snd_host.specs.Host.{next_count}
 use Rattle.snd_host.proofs.OpenedInputs.{opens_nothing, opens_same, opens_read, in_order_none, in_order_part, in_order_whole}
 use Rattle.snd_host.proofs.WholeInput.{held_length}
 use Rattle.snd_host.proofs.calls.read_whole.Goals as goal
+
+pub reading-init : goal.reading-init
+reading-init g c = record {
+  within = search rules;
+  current = search rules;
+  others = search rules;
+  inputs = search rules;
+  opened = search rules;
+  front = search rules;
+  left = search rules;
+  available = search rules;
+  reads = [];
+  since = since_one _ _ _ c.in_ok-file.ensures.made;
+  each = tt;
+  joined = search rules;
+}
 
 pub returns-in_err-file-clause-failed : goal.returns-in_err-file-clause-failed
 returns-in_err-file-clause-failed g c = λ _. record { once = c.in_err-file.ensures.cause.failed; last = c.in_err-file.ensures.last }
@@ -151,4 +167,4 @@ returns-in_err-extend_from_slice-clause-calls g c =
 pub returns-clause-calls : goal.returns-clause-calls
 returns-clause-calls g c =
     let so_far = c.reading.invariant in
-    too_long c.args.name.now c.args.limit c.in_ok-file.file.0 so_far.reads c.reading.bytes.items _ _ so_far.since so_far.each so_far.joined _ (omega arith) (omega arith) refl
+    too_long c.args.name.now c.args.limit c.in_ok-file.file.0 so_far.reads c.reading.bytes.items _ _ so_far.since so_far.each so_far.joined (omega arith) (omega arith)

@@ -4,12 +4,12 @@ use Rattle.std.proofs.lemmas.Result.{err_from_is_err_and}
 use Rattle.snd_host.specs.Calls.{wrote, not_written}
 use Rattle.snd_host.specs.Follows.{AreWrites}
 use Rattle.snd_host.specs.Host.{Writes}
-use Rattle.snd_host.proofs.CallsInOrder.{no_writes, since_more, writes_cut, writes_more}
+use Rattle.snd_host.proofs.CallsInOrder.{no_writes, since_none, since_more, writes_cut, writes_more}
 use Rattle.snd_host.proofs.Writes.{wrote_nothing, wrote_then, take_then_slice, counts_ok, counts_same, counts_err, part_so_far, room_left}
 use Rattle.snd_host.proofs.calls.write_all.Goals as goal
 
 pub loop-done-init : goal.loop-done-init
-loop-done-init g c = record { within = omega arith; wrote = wrote_nothing _ _; notes = refl; outputs = refl; last = λ note. refl; made = []; since = refl; writes = no_writes _ }
+loop-done-init g c = record { within = omega arith; wrote = wrote_nothing _ _; notes = refl; outputs = refl; last = λ note. refl; made = []; since = since_none _; writes = no_writes _ }
 
 pub returns-in_err-done-clause-calls : goal.returns-in_err-done-clause-calls
 returns-in_err-done-clause-calls g c =
