@@ -7,6 +7,7 @@ use Rattle.snd_host.specs.Host.{HostState}
 use Rattle.snd_host.specs.Follows.{Since, IsCut, Follows}
 use Rattle.snd_host.specs.Takes.{Takes}
 use Rattle.snd_host.specs.declared.host.Failed.{Failed}
+use Rattle.snd_host.proofs.CallsInOrder.{since_none, since_then}
 use Rattle.snd_host.proofs.Taking.{ends_short}
 use Rattle.command_runner.specs.InOrder.{Then}
 use Rattle.command_runner.specs.NamedInputs.{NamedInput, Held, held_of, TakesInOrder}
