@@ -786,9 +786,9 @@ MUTANTS = [
         ('brr_encode/src/encoder.rt', 'MAX_SAMPLES: usize = 116480', 'MAX_SAMPLES: usize = 116496'), ('sample_rip/src/blocks.rt', 'MAX_BLOCKS: u32 = 7280', 'MAX_BLOCKS: u32 = 7281')]),
     Mutant('63 checkpoints', ['cut_form', 'mark_laws'], ['tests_renders', 'tests_tunes'], [
         (CUT, 'MAX_CHECKPOINTS: u32 = 64', 'MAX_CHECKPOINTS: u32 = 63')]),
-    Mutant('4,097 pages for lists of cuts', ['cut_form', 'cut_files', 'command_cuts'], ['tests_tunes'], [
+    Mutant('4,097 pages for lists of cuts', ['cut_form', 'session_files', 'command_cuts'], ['tests_tunes'], [
         (CUT, 'SLOTS_FOR_CUTS: u32 = 4096', 'SLOTS_FOR_CUTS: u32 = 4097')]),
-    Mutant('4,095 pages for lists of cuts', ['cut_form', 'cut_files', 'command_cuts'], ['tests_tunes'], [
+    Mutant('4,095 pages for lists of cuts', ['cut_form', 'session_files', 'command_cuts'], ['tests_tunes'], [
         (CUT, 'SLOTS_FOR_CUTS: u32 = 4096', 'SLOTS_FOR_CUTS: u32 = 4095')]),
     Mutant('numbers of eight digits at most in lists and scripts', ['cut_form', 'cut_text'], ['tests_files'], [
         ('cut_form/specs/TextLines.antt', 'max_digits = 9', 'max_digits = 8'), ('cut_text/src/lines.rt', 'MAX_DIGITS: usize = 9', 'MAX_DIGITS: usize = 8')]),

@@ -1,3 +1,5 @@
+-- Cutting: what is still to come of cuts, once one was begun or a part of one was played.
+pub mod Cutting
 -- Playing: the frames of a session, part by part.
 pub mod Playing
 -- Going: what is still to come of a session, once it went on.

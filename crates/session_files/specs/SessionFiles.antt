@@ -14,7 +14,7 @@ use Rattle.cut_server.specs.ServerState.{slots_of}
 use Rattle.cut_server.specs.Server.{ChipServer, pages_at, frames_to}
 use Rattle.command_runner.specs.Stream.{Both}
 use Rattle.session_files.specs.SessionRun.{SessionRunState, session_of, left_to_play}
-use Rattle.session_files.specs.Report.{report_on, max_reply_bytes}
+use Rattle.session_files.specs.Replies.{report_on, max_reply_bytes}
 
 pub record FilesState (S V : Type 0) : Type 0 where
   pub run : SessionRunState S V
