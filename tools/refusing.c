@@ -17,7 +17,7 @@ extern void *__libc_realloc(void *old, size_t size);
 static const char *kind;
 static size_t kind_length;
 static long number, calls;
-static int told;
+static int watched;
 
 __attribute__((constructor)) static void begin(void)
 {
@@ -27,7 +27,7 @@ __attribute__((constructor)) static void begin(void)
         return;
     kind_length = colon - refuse;
     number = atol(colon + 1);
-    told = teller ? atoi(teller) : -1;
+    watched = teller ? atoi(teller) : -1;
     kind = refuse;
 }
 
@@ -35,8 +35,8 @@ static int is_refused(const char *called, int error)
 {
     if (!kind || strlen(called) != kind_length || strncmp(kind, called, kind_length) || ++calls != number)
         return 0;
-    if (told >= 0)
-        syscall(SYS_write, told, "!", 1);
+    if (watched >= 0)
+        syscall(SYS_write, watched, "!", 1);
     errno = error;
     return 1;
 }

@@ -316,6 +316,7 @@ fn read_rip(words: &[String]) -> Command<'_>
 }
 
 /// Reads the words of the command line.
+#[tactic(auto, using(std::proofs::lemmas::Grind::common_steps))]
 pub fn read_words(words: &[String]) -> Command<'_>
     ensures meaning { meaning_of result ≡ command_of (map string_bytes words.now) }
     ensures in_range { AreInRange result }

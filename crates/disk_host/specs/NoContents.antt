@@ -4,8 +4,8 @@ use Rattle.snd_host.specs.Calls.{Call}
 use Rattle.snd_host.specs.Host.{HostState}
 
 -- Only the calls that were made of it, which input is current, what was created and ended, the counts and whether the last call failed are reported.
-abbrev pub untold_state : (calls : List Call) → (current : Option ℕ) → (ended : List Bool) → (inputs notes outputs : ℕ) → (failed_last : Bool) → HostState
-untold_state calls current ended inputs notes outputs failed_last = record {
+abbrev pub state_without_contents : (calls : List Call) → (current : Option ℕ) → (ended : List Bool) → (inputs notes outputs : ℕ) → (failed_last : Bool) → HostState
+state_without_contents calls current ended inputs notes outputs failed_last = record {
   calls = calls;
   holds = None;
   left = None;
