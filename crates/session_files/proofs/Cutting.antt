@@ -1,13 +1,11 @@
 -- What is still to come of cuts, once one was begun or a part of one was played.
 use Rattle.std.proofs.Common.{◌≡◌, ◌∙◌, sym, ap, refl, ℕ, zero, suc, ◌+◌, ◌-◌, ◌^◌, ◌≤◌, ◌<◌, Bool, true, false, List, [], ◌∷◌, ◌++◌, length, Some, inl, inr, arith}
 use Rattle.std.specs.Prelude.{not, ◌&&◌, nat_le, nat_lt, fold}
-use Rattle.std.specs.List.{flat_map, slice_get}
+use Rattle.std.specs.List.{slice_get}
 use Rattle.std.proofs.lemmas.Bool.{cases_Bool}
 use Rattle.std.proofs.lemmas.Bool.Decides.{nat_tests}
 use Rattle.std.proofs.lemmas.List.Sums.{sum_by-cons, sum_by_push}
-use Rattle.num_fix.specs.declared.Frame.{Frame}
 use Rattle.num_fix.specs.Limits.{max_frames}
-use Rattle.wav_form.specs.Wave.{frame_bytes, header_of, stereo_wave}
 use Rattle.chip_form.specs.ChipMeaning.{ChipMeaning}
 use Rattle.chip_form.specs.ChipSaving.{ChipSaving}
 use Rattle.cut_form.specs.declared.cut.Cut.{Cut}
@@ -18,23 +16,16 @@ use Rattle.cut_server.specs.ServerState.{book_of, slots_of, pages_after}
 use Rattle.cut_server.specs.Server.{ChipServer, lock_step_machines, pages_at, KeepsTune}
 use Rattle.cut_text.specs.Cuts.{EndWithinHour}
 use Rattle.cut_form.specs.GrowingFrames.{AreOfRun}
-use Rattle.cut_form.proofs.Slices.{slice_none, length-cuts}
+use Rattle.cut_form.proofs.Slices.{length-cuts}
 use Rattle.session_files.specs.CutFiles.{IsInBounds, cuts_report}
 
 -- how many frames cuts have
-length-cut_frames : {A : Type 0} (f : ℕ → List A) → AreOfRun f → (cuts : List Cut) → cut_samples cuts ≡ length (cut_frames f cuts)
+pub length-cut_frames : {A : Type 0} (f : ℕ → List A) → AreOfRun f → (cuts : List Cut) → cut_samples cuts ≡ length (cut_frames f cuts)
 length-cut_frames f run [] = refl
 length-cut_frames f run (cut ∷ cuts) =
     sum_by-cons (λ (c : Cut). c.count) cut cuts
     ∙ ap (λ (n : ℕ). cut.count + n) (length-cut_frames f run cuts)
     ∙ sym (length-cuts f run cut cuts)
-
--- before the first cut the header and what is to come are the whole file
-pub whole_wave : (f : ℕ → List Frame) → AreOfRun f → (at : ℕ) (cuts : List Cut)
-    → header_of 2 (cut_samples cuts) ++ flat_map frame_bytes (slice_of f at 0 ++ cut_frames f cuts) ≡ stereo_wave (cut_frames f cuts)
-whole_wave f run at cuts =
-    ap (λ (n : ℕ). header_of 2 n ++ flat_map frame_bytes (slice_of f at 0 ++ cut_frames f cuts)) (length-cut_frames f run cuts)
-    ∙ ap (λ (l : List Frame). header_of 2 (length (cut_frames f cuts)) ++ flat_map frame_bytes (l ++ cut_frames f cuts)) (slice_none f at 0 run refl)
 
 -- each cut of a list ends within an hour
 pub ends_within : (cuts : List Cut) (i : ℕ) (cut : Cut) → EndWithinHour cuts → slice_get cuts i ≡ Some cut → cut.start + cut.count ≤ max_frames

@@ -37,9 +37,9 @@ pub struct CutFiles<C: Chip> {
 }
 
 impl<C: Chip> Model for CutFiles<C> {
-    ghost use Rattle.session_files.specs.CutFiles.{FilesState, IsPlaying};
+    ghost use Rattle.session_files.specs.CutFiles.{CutFilesState, IsPlaying};
 
-    ghost Value = { FilesState C.State C.Saved };
+    ghost Value = { CutFilesState C.State C.Saved };
 
     ghost view = { λ f. record { server = f.server; cuts = f.cuts; begun = f.begun; left = f.left; wave = f.wave; is_done = f.is_done } };
 

@@ -43,9 +43,9 @@ pub struct SessionFiles<C: Chip> {
 
 impl<C: Chip> Model for SessionFiles<C> {
     ghost use Rattle.std.specs.Prelude.{◌≤◌, drop, length, vec_capacity};
-    ghost use Rattle.session_files.specs.SessionFiles.{FilesState, IsOnScript};
+    ghost use Rattle.session_files.specs.SessionFiles.{SessionFilesState, IsOnScript};
 
-    ghost Value = { FilesState C.State C.Saved };
+    ghost Value = { SessionFilesState C.State C.Saved };
 
     ghost view = { λ f. record {
       run = f.run;

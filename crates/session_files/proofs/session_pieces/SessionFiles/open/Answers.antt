@@ -8,7 +8,7 @@ use Rattle.cut_text.specs.Playing.{played_frames}
 use Rattle.session_files.specs.Replies.{report_on}
 use Rattle.cut_form.proofs.Slices.{slice_none}
 use Rattle.session_files.proofs.Playing.{length-session}
-use Rattle.session_files.proofs.Going.{whole_wave}
+use Rattle.session_files.proofs.Whole.{whole_wave}
 use Rattle.session_files.proofs.session_pieces.SessionFiles.open.Goals as goal
 
 pub returns-clause-wave : goal.returns-clause-wave
@@ -22,12 +22,12 @@ returns-clause-wave g c =
     let whole = length-session f c.requires.run slots pages (opened_session pages) script in
     let count : played_frames 0 0 script ≡ length (cut_frames f (played_cuts known)) = omega (arith, whole) in
     rw c.new-run.ensures
-    (whole_wave f known _ _ (played_frames 0 0 script) (slice_none f (book_of server).position 0 c.requires.run refl)
-    (ap (λ (b : CutBook). replies slots pages (record { book = after_play b 0; frames = 0 }) script) c.requires.opened) count)
+    (whole_wave _ _ (cut_frames f (played_cuts known)) (played_frames 0 0 script) (slice_none f (book_of server).position 0 c.requires.run refl)
+    (ap (λ (b : CutBook). cut_frames f (played_cuts (replies slots pages (record { book = after_play b 0; frames = 0 }) script))) c.requires.opened) count)
 
 pub returns-clause-report : goal.returns-clause-report
 returns-clause-report g c =
     let server = c.args.server in
     let pages = pages_at g.C.Chip.meaning g.C.Chip.saving server in
-    rw (c.new-run.ensures, c.in_ok-rooms.ensures.report)
+    rw (c.new-run.ensures, c.in_ok-report.ensures)
     (ap (λ (b : CutBook). report_on (replies (slots_of server) pages (record { book = after_play b 0; frames = 0 }) c.args.script)) c.requires.opened)
