@@ -1,10 +1,10 @@
 -- Calls one after another, and those that write. What calls agree with goes through them one by one, so two lists that do are one list that does.
-use Rattle.std.proofs.Common.{◌≡◌, ◌≢◌, ℕ, ◌≤◌, List, [], ◌∷◌, ◌++◌, Option, Some, length, take, drop, refl, sym, ap, ◌∙◌, subst, arith, ◌+◌, ◌<◌, length-drop, length-take, take-add}
+use Rattle.std.proofs.Common.{◌≡◌, ◌≢◌, ℕ, ◌≤◌, Bool, List, [], ◌∷◌, ◌++◌, Option, Some, length, take, drop, refl, sym, ap, ◌∙◌, subst, arith, ◌+◌, ◌<◌, length-drop, length-take, take-add}
 use Rattle.std.specs.List.{AllByRecursion}
 use Rattle.std.proofs.lemmas.List.{append_assoc, append-nil, take-append-drop}
 use Rattle.snd_host.specs.Calls.{Call, opened, not_opened, read, not_read, created, not_created, wrote, not_written, finished, not_finished}
-use Rattle.snd_host.specs.Host.{HostState, Files}
-use Rattle.snd_host.specs.History.{AreTrueOf, AreSteadyCalls, rooms_after, rooms_over}
+use Rattle.snd_host.specs.Host.{HostState, Files, IsOpen}
+use Rattle.snd_host.specs.History.{ended_of, AreTrueOf, AreSteadyCalls, rooms_after, rooms_over}
 use Rattle.snd_host.specs.Follows.{pushed, Makes, Since, IsCut, IsWrite, AreWrites, bytes_written}
 
 pub pushed_more : (xs ys before : List Call) → pushed (xs ++ ys) before ≡ pushed ys (pushed xs before)
@@ -46,7 +46,7 @@ since_then xs ys a b c first second = record {
       let one = first.steady rooms known in
       let two = second.steady (rooms_over xs rooms) one.1 in (
         steady_then a.holds xs ys a.calls rooms one.0
-        (subst (λ (l : List Call). AreSteadyCalls a.holds (rooms_over xs rooms) l ys) first.calls (subst (λ (h : Option Files). AreSteadyCalls h (rooms_over xs rooms) b.calls ys) first.holds two.0)),
+            (subst (λ (l : List Call). AreSteadyCalls a.holds (rooms_over xs rooms) l ys) first.calls (subst (λ (h : Option Files). AreSteadyCalls h (rooms_over xs rooms) b.calls ys) first.holds two.0)),
         two.1 ∙ ap (λ (l : List ℕ). Some l) (sym (rooms_over-append xs ys rooms)),
       );
 }
@@ -82,6 +82,25 @@ writes_then file p q xs ys first second = record {
   each = each_more file xs ys first.each second.each;
   joined = bytes_more xs ys ∙ ap (λ (l : List ℕ). l ++ bytes_written ys) first.joined ∙ ap (λ (l : List ℕ). p ++ l) second.joined;
 }
+
+-- Writes end no output.
+pub ended_of-writes : (file : ℕ) (calls before : List Call) → AllByRecursion (IsWrite file) calls → ended_of (pushed calls before) ≡ ended_of before
+ended_of-writes file [] before each = refl
+ended_of-writes file (wrote f bytes ∷ calls) before each = ended_of-writes file calls (wrote f bytes ∷ before) each.1
+ended_of-writes file (opened name n ∷ xs) before each = absurd each.0
+ended_of-writes file (not_opened name ∷ xs) before each = absurd each.0
+ended_of-writes file (read n room bytes ∷ xs) before each = absurd each.0
+ended_of-writes file (not_read n room ∷ xs) before each = absurd each.0
+ended_of-writes file (created name n ∷ xs) before each = absurd each.0
+ended_of-writes file (not_created name ∷ xs) before each = absurd each.0
+ended_of-writes file (not_written n piece ∷ xs) before each = absurd each.0
+ended_of-writes file (finished n ∷ xs) before each = absurd each.0
+ended_of-writes file (not_finished n ∷ xs) before each = absurd each.0
+
+-- an output that can be written can be written still after writes
+pub still_open : (file : ℕ) (bytes : List ℕ) (calls : List Call) (a b : HostState) → Since calls a b → AreWrites file bytes calls → (n : ℕ) → IsOpen (ended_of a.calls) n → IsOpen (ended_of b.calls) n
+still_open file bytes calls a b since writes n open_yet =
+    subst (λ (e : List Bool). IsOpen e n) (sym (ap ended_of since.calls ∙ ended_of-writes file calls a.calls writes.each)) open_yet
 
 not_empty : (n : ℕ) (l : List ℕ) → n < length l → drop n l ≢ []
 not_empty n l within none = let e = ap (length {A = ℕ}) none in absurd (omega (arith, length-drop n l, e))

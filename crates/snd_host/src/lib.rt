@@ -5,11 +5,11 @@ mod calls;
 mod drip;
 mod files;
 mod host;
-mod keeping;
 mod log;
 mod memory;
 mod noting;
-mod readings;
+mod outputs;
+mod reading;
 
 pub use calls::{MAX_READ_AT_ONCE, ReadRefusal, read_whole, write_all};
 pub use drip::DripHost;
