@@ -1,0 +1,4 @@
+-- EachCall: what holds of each call that a command makes.
+pub mod Below
+pub mod EachCall
+pub mod Counting

@@ -1,0 +1,2 @@
+//! Laws of runs, from the calls that they make.
+#![tactic(auto)]
