@@ -2,3 +2,5 @@
 pub mod Below
 pub mod EachCall
 pub mod Counting
+pub mod Making
+pub mod Parting
