@@ -50,7 +50,7 @@ cut_is f Does calls history cut = ap (λ (l : List Call). f (pushed l history)) 
 
 -- Calls for inputs.
 
-abbrev input_failed : Counts → Counts
+abbrev pub input_failed : Counts → Counts
 input_failed c = record c { inputs = next_count c.inputs }
 
 abbrev InputFails : Call → Type 0
@@ -91,7 +91,7 @@ module _ (inputs : List NamedInput) (given : List (List ℕ)) where
 
 -- Calls for outputs and the report.
 
-abbrev output_failed : Counts → Counts
+abbrev pub output_failed : Counts → Counts
 output_failed c = record c { outputs = next_count c.outputs }
 
 abbrev OutputFails : Call → Type 0
@@ -127,10 +127,10 @@ module _ {C : Type 0} (order : Order) (n : ℕ) (high : 2 ≤ n) (a : Answer C) 
 
 -- Writes of a line of complaint.
 
-abbrev complained : List ℕ → Counts → Counts
+abbrev pub complained : List ℕ → Counts → Counts
 complained bytes c = record c { complaint = c.complaint ++ bytes }
 
-abbrev note_failed : Counts → Counts
+abbrev pub note_failed : Counts → Counts
 note_failed c = record c { notes = next_count c.notes }
 
 pub notes_count : (note history : List Call) → AllByRecursion (IsWrite 1) note → counts_of (pushed note history) ≡ complained (bytes_written note) (counts_of history)

@@ -4,3 +4,4 @@ pub mod EachCall
 pub mod Counting
 pub mod Making
 pub mod Parting
+pub mod Ending
