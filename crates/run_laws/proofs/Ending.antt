@@ -16,13 +16,10 @@ use Rattle.command_runner.specs.RunCalls.{DeliversAnswer, EndsBy}
 use Rattle.command_runner.specs.declared.refusals.Refusal.{Refusal}
 use Rattle.command_runner.specs.declared.refusals.Refusal.TheVariants.{Usage, ReadFault, WriteFault, OutOfMemory, Input}
 use Rattle.run_laws.specs.History.{ended_of}
+use Rattle.run_laws.proofs.Ends.{IsEnd}
 use Rattle.run_laws.proofs.Counting.{Counts, counts_of, Standing, standing, input_failed, output_failed, taken_counts, taken_left, taken_cut_counts, taken_cut_left, taken_begun_counts, taken_begun_left, made_counts, made_cut_counts, made_cut_left}
 use Rattle.run_laws.proofs.Making.{grown, grown_none}
 use Rattle.run_laws.proofs.Parting.{LeftPartly, delivers_all, delivers_part}
-
--- an end is that of the answer, or one of three others
-abbrev pub IsEnd : {C : Type 0} → Option (Refusal C) → Answer C → Type 0
-IsEnd r a = (r ≡ refusal_of a) ⊎ ((r ≡ Some ReadFault) ⊎ ((r ≡ Some WriteFault) ⊎ (r ≡ Some OutOfMemory)))
 
 -- the counts after an end
 abbrev pub faulted : {C : Type 0} → Option (Refusal C) → Counts → Counts
@@ -37,7 +34,6 @@ pub record Stands {C : Type 0} (a : Answer C) (r : Option (Refusal C)) (s now : 
   pub flags : List Bool
   pub left : now ≡ grown reported begun flags s
   pub settled : r ≡ refusal_of a → (reported ≡ report_of a) × (begun ≡ outputs_of a) × (flags ≡ all_ended (outputs_of a))
-  pub accepted : r ≡ Some WriteFault → refusal_of a ≡ None
   pub prefix : r ≡ Some WriteFault → IsPrefix reported (report_of a)
   pub begins : r ≡ Some WriteFault → delivery.IsBegun begun (outputs_of a)
   pub ended_whole : r ≡ Some WriteFault → EndedAreWhole begun flags (outputs_of a)
@@ -57,7 +53,6 @@ none_stands {C = C} a why s now other same = record {
   flags = [];
   left = same ∙ sym (grown_none s);
   settled = refused_makes_none a why;
-  accepted = λ is. absurd (other (inside why WriteFault is));
   prefix = λ is. absurd (other (inside why WriteFault is));
   begins = λ is. absurd (other (inside why WriteFault is));
   ended_whole = λ is. absurd (other (inside why WriteFault is));
@@ -77,7 +72,6 @@ all_stand order n (done outputs report) made history number does = record {
   flags = all_ended outputs;
   left = delivers_all order outputs report n made history number does;
   settled = λ is. (refl, refl, refl);
-  accepted = λ wrong. absurd (cc);
   prefix = λ wrong. absurd (cc);
   begins = λ wrong. absurd (cc);
   ended_whole = λ wrong. absurd (cc);
@@ -97,7 +91,6 @@ part_stands {C = C} order n (done outputs report) made history high number cut =
       flags = part.flags;
       left = made_cut_left {C = C} order n high (done outputs report) made history cut ∙ part.left;
       settled = λ wrong. absurd (cc);
-      accepted = λ is. refl;
       prefix = λ is. part.prefix;
       begins = λ is. part.begins;
       ended_whole = λ is. part.ended_whole;
@@ -130,6 +123,10 @@ module _ {C : Type 0} (order : Order) (answer : Held → Answer C) (inputs : Lis
   is_end (Some OutOfMemory) ends = inr (inr (inr refl))
   is_end (Some Usage) ends = inl (sym (ap refusal_of ends.1))
   is_end (Some (Input cause)) ends = inl (sym (ap refusal_of ends.1))
+
+  -- Where an output could not be written, there were outputs or a report.
+  pub cut_accepted : (r : Option (Refusal C)) → r ≡ Some WriteFault → EndsBy order answer inputs r n given taken made → refusal_of (answer (held_of given)) ≡ None
+  cut_accepted r is ends = sym (answer_accepted order n (answer (held_of given)) _ (subst (λ (r : Option (Refusal C)). EndsBy order answer inputs r n given taken made) is ends).1.whole)
 
   pub names_input : (inputs : List NamedInput) → IsCut (TakesInOrder inputs given) taken → IsTrue (are_some inputs)
   names_input [] cut = absurd (no_cut_of_no_inputs given taken cut)
