@@ -1,7 +1,7 @@
 -- What calls come to that are made for inputs, for outputs and for a line of complaint: in the counts of faults, in the complaint, and in what
 -- stands of the outputs. Each kind of call leaves all that isn't its own as it was, and so do all calls of that kind; one that failed adds one to its
 -- count.
-use Rattle.std.proofs.Common.{◌≡◌, ◌≢◌, ℕ, zero, suc, ◌+◌, ◌≤◌, Bool, true, false, List, [], ◌∷◌, ◌++◌, Option, Some, None, if◌then◌else◌, refl, sym, ap, ◌∙◌, subst, arith}
+use Rattle.std.proofs.Common.{◌≡◌, ◌≢◌, ◌⊎◌, inl, inr, ℕ, zero, suc, ◌+◌, ◌≤◌, Bool, true, false, List, [], ◌∷◌, ◌++◌, Option, Some, None, if◌then◌else◌, refl, sym, ap, ◌∙◌, subst, arith}
 use Rattle.std.specs.Prelude.{◌==◌}
 use Rattle.std.specs.List.{AllByRecursion}
 use Rattle.std.proofs.lemmas.List.{append_assoc, append-nil}
@@ -16,7 +16,7 @@ use Rattle.command_runner.specs.RunCalls.{DeliversAnswer}
 use Rattle.command_runner.proofs.Woven.{write_is}
 use Rattle.run_laws.proofs.Below.{other_number, bytes_more}
 use Rattle.run_laws.specs.History.{given_of, ended_of, in_faults, note_faults, out_faults}
-use Rattle.run_laws.proofs.EachCall.{all_first, one_of, each_for_inputs, each_for_outputs, each_written}
+use Rattle.run_laws.proofs.EachCall.{Each, all_first, one_of, each_for_inputs, each_for_outputs, each_written}
 
 pub record Counts : Type 0 where
   pub inputs : ℕ
@@ -57,37 +57,39 @@ abbrev InputFails : Call → Type 0
 InputFails call = (history : List Call) → counts_of (failure_of call ∷ history) ≡ input_failed (counts_of history)
 
 module _ (inputs : List NamedInput) (given : List (List ℕ)) where
+  keep_counts : Each (Keeps counts_of) (TakesInOrder inputs given)
+  keep_counts = each_for_inputs (Keeps counts_of) (λ name file history. refl) (λ file room bytes history. refl) inputs given
+
+  keep_outputs : Each (Keeps standing) (TakesInOrder inputs given)
+  keep_outputs = each_for_inputs (Keeps standing) (λ name file history. refl) (λ file room bytes history. refl) inputs given
+
   pub taken_counts : (taken history : List Call) → TakesInOrder inputs given taken → counts_of (pushed taken history) ≡ counts_of history
-  taken_counts taken history takes = kept counts_of taken history (each_for_inputs (Keeps counts_of) (λ name file history. refl) (λ file room bytes history. refl) inputs given taken takes)
+  taken_counts taken history takes = kept counts_of taken history (keep_counts taken takes)
 
   pub taken_left : (taken history : List Call) → TakesInOrder inputs given taken → standing (pushed taken history) ≡ standing history
-  taken_left taken history takes = kept standing taken history (each_for_inputs (Keeps standing) (λ name file history. refl) (λ file room bytes history. refl) inputs given taken takes)
+  taken_left taken history takes = kept standing taken history (keep_outputs taken takes)
 
   -- where one failed
   pub taken_cut_counts : (taken history : List Call) → IsCut (TakesInOrder inputs given) taken → counts_of (pushed taken history) ≡ input_failed (counts_of history)
   taken_cut_counts taken history cut =
-      let each = each_for_inputs (Keeps counts_of) (λ name file history. refl) (λ file room bytes history. refl) inputs given _ cut.whole in
       let fails = each_for_inputs InputFails (λ name file history. refl) (λ file room bytes history. refl) inputs given _ cut.whole in
       cut_is counts_of (TakesInOrder inputs given) taken history cut
       ∙ one_of InputFails cut.done cut.rest cut.call fails (pushed cut.done history)
-      ∙ ap input_failed (kept counts_of cut.done history (all_first (Keeps counts_of) cut.done (cut.call ∷ cut.rest) each))
+      ∙ ap input_failed (kept counts_of cut.done history (all_first (Keeps counts_of) cut.done (cut.call ∷ cut.rest) (keep_counts _ cut.whole)))
 
   pub taken_cut_left : (taken history : List Call) → IsCut (TakesInOrder inputs given) taken → standing (pushed taken history) ≡ standing history
   taken_cut_left taken history cut =
-      let each = each_for_inputs (Keeps standing) (λ name file history. refl) (λ file room bytes history. refl) inputs given _ cut.whole in
       let fails = each_for_inputs (λ call. Keeps standing (failure_of call)) (λ name file history. refl) (λ file room bytes history. refl) inputs given _ cut.whole in
       cut_is standing (TakesInOrder inputs given) taken history cut
       ∙ one_of (λ call. Keeps standing (failure_of call)) cut.done cut.rest cut.call fails (pushed cut.done history)
-      ∙ kept standing cut.done history (all_first (Keeps standing) cut.done (cut.call ∷ cut.rest) each)
+      ∙ kept standing cut.done history (all_first (Keeps standing) cut.done (cut.call ∷ cut.rest) (keep_outputs _ cut.whole))
 
   -- where memory was wanting
   pub taken_begun_counts : (taken history : List Call) → IsBegun (TakesInOrder inputs given) taken → counts_of (pushed taken history) ≡ counts_of history
-  taken_begun_counts taken history begun =
-      kept counts_of taken history (all_first (Keeps counts_of) taken begun.rest (each_for_inputs (Keeps counts_of) (λ name file history. refl) (λ file room bytes history. refl) inputs given _ begun.whole))
+  taken_begun_counts taken history begun = kept counts_of taken history (all_first (Keeps counts_of) taken begun.rest (keep_counts _ begun.whole))
 
   pub taken_begun_left : (taken history : List Call) → IsBegun (TakesInOrder inputs given) taken → standing (pushed taken history) ≡ standing history
-  taken_begun_left taken history begun =
-      kept standing taken history (all_first (Keeps standing) taken begun.rest (each_for_inputs (Keeps standing) (λ name file history. refl) (λ file room bytes history. refl) inputs given _ begun.whole))
+  taken_begun_left taken history begun = kept standing taken history (all_first (Keeps standing) taken begun.rest (keep_outputs _ begun.whole))
 
 -- Calls for outputs and the report.
 
@@ -96,6 +98,11 @@ output_failed c = record c { outputs = next_count c.outputs }
 
 abbrev OutputFails : Call → Type 0
 OutputFails call = (history : List Call) → counts_of (failure_of call ∷ history) ≡ output_failed (counts_of history)
+
+-- Only the complaint has the number 1.
+no_complaint : (n file : ℕ) → 2 ≤ n → (file ≡ 0) ⊎ (n ≤ file) → file ≢ 1
+no_complaint n file high (inl report) is = absurd (omega arith)
+no_complaint n file high (inr output) is = absurd (omega arith)
 
 write_keeps : (file : ℕ) (bytes : List ℕ) → file ≢ 1 → Keeps counts_of (wrote file bytes)
 write_keeps zero bytes other history = refl
@@ -107,21 +114,23 @@ write_fails file bytes other history =
     ap (λ (b : Bool). record (counts_of history) { notes = if b then next_count (note_faults history) else note_faults history; outputs = if b then out_faults history else next_count (out_faults history) }) (other_number file 1 other)
 
 module _ {C : Type 0} (order : Order) (n : ℕ) (high : 2 ≤ n) (a : Answer C) where
+  delivery_keeps : Each (Keeps counts_of) (DeliversAnswer order n a)
+  delivery_keeps = each_for_outputs (Keeps counts_of) n (λ name file history. refl) (λ file bytes number some. write_keeps file bytes (no_complaint n file high number)) (λ file history. refl) order a
+
   pub made_counts : (made history : List Call) → DeliversAnswer order n a made → counts_of (pushed made history) ≡ counts_of history
-  made_counts made history does = kept counts_of made history (each_for_outputs (Keeps counts_of) (λ name file history. refl) write_keeps (λ file history. refl) order n a high made does)
+  made_counts made history does = kept counts_of made history (delivery_keeps made does)
 
   pub made_cut_counts : (made history : List Call) → IsCut (DeliversAnswer order n a) made → counts_of (pushed made history) ≡ output_failed (counts_of history)
   made_cut_counts made history cut =
-      let each = each_for_outputs (Keeps counts_of) (λ name file history. refl) write_keeps (λ file history. refl) order n a high _ cut.whole in
-      let fails = each_for_outputs OutputFails (λ name file history. refl) write_fails (λ file history. refl) order n a high _ cut.whole in
+      let fails = each_for_outputs OutputFails n (λ name file history. refl) (λ file bytes number some. write_fails file bytes (no_complaint n file high number)) (λ file history. refl) order a _ cut.whole in
       cut_is counts_of (DeliversAnswer order n a) made history cut
       ∙ one_of OutputFails cut.done cut.rest cut.call fails (pushed cut.done history)
-      ∙ ap output_failed (kept counts_of cut.done history (all_first (Keeps counts_of) cut.done (cut.call ∷ cut.rest) each))
+      ∙ ap output_failed (kept counts_of cut.done history (all_first (Keeps counts_of) cut.done (cut.call ∷ cut.rest) (delivery_keeps _ cut.whole)))
 
   -- the failed call leaves what stands
   pub made_cut_left : (made history : List Call) (cut : IsCut (DeliversAnswer order n a) made) → standing (pushed made history) ≡ standing (pushed cut.done history)
   made_cut_left made history cut =
-      let fails = each_for_outputs (λ call. Keeps standing (failure_of call)) (λ name file history. refl) (λ file bytes other history. refl) (λ file history. refl) order n a high _ cut.whole in
+      let fails = each_for_outputs (λ call. Keeps standing (failure_of call)) n (λ name file history. refl) (λ file bytes number some history. refl) (λ file history. refl) order a _ cut.whole in
       cut_is standing (DeliversAnswer order n a) made history cut
       ∙ one_of (λ call. Keeps standing (failure_of call)) cut.done cut.rest cut.call fails (pushed cut.done history)
 

@@ -1,5 +1,5 @@
 -- What holds of each kind of call holds of each call that is made for inputs, for outputs and the report, or for a line of complaint.
-use Rattle.std.proofs.Common.{◌≡◌, ◌≢◌, ◌⊎◌, inl, inr, ℕ, ◌+◌, ◌≤◌, ◌<◌, Bool, true, false, List, [], ◌∷◌, ◌++◌, length, Option, Some, sym, ap, ◌∙◌, subst, if◌then◌else◌, arith}
+use Rattle.std.proofs.Common.{◌≡◌, ◌≢◌, ◌⊎◌, inl, inr, ℕ, ◌+◌, ◌≤◌, ◌<◌, Bool, true, false, List, [], ◌∷◌, ◌++◌, length, Option, Some, refl, sym, ap, ◌∙◌, subst, if◌then◌else◌, arith}
 use Rattle.std.specs.Prelude.{◌==◌, ◌||◌}
 use Rattle.std.specs.List.{AllByRecursion, list_any}
 use Rattle.std.proofs.lemmas.Bool.{eqb-true}
@@ -81,10 +81,11 @@ from_first n file (o ∷ outputs) h =
     | inr more ↦ omega (arith, from_first (n + 1) file outputs more)
     ]
 
--- Calls for outputs and the report: creations, endings, and writes to all but the complaint.
-module _ (P : Call → Type 0) (of_create : (name : List ℕ) (file : ℕ) → P (created name file)) (of_write : (file : ℕ) (bytes : List ℕ) → file ≢ 1 → P (wrote file bytes)) (of_finish : (file : ℕ) → P (finished file)) where
-  write_to_is : (n : ℕ) (outputs : List Output) → 2 ≤ n → (c : Call) → IsWriteTo (numbered n outputs) c → P c
-  write_to_is n outputs high (wrote file bytes) h = of_write file bytes (λ is. absurd (omega (arith, is, high, from_first n file outputs h.0)))
+-- Calls for outputs and the report: creations, endings, and writes of some bytes to the report or to outputs from the first number on.
+module _ (P : Call → Type 0) (first : ℕ) (of_create : (name : List ℕ) (file : ℕ) → P (created name file))
+    (of_write : (file : ℕ) (bytes : List ℕ) → (file ≡ 0) ⊎ (first ≤ file) → bytes ≢ [] → P (wrote file bytes)) (of_finish : (file : ℕ) → P (finished file)) where
+  write_to_is : (n : ℕ) (outputs : List Output) → first ≤ n → (c : Call) → IsWriteTo (numbered n outputs) c → P c
+  write_to_is n outputs high (wrote file bytes) h = of_write file bytes (inr (omega (arith, from_first n file outputs h.0))) h.1
   write_to_is n outputs high (opened name file) h = absurd h
   write_to_is n outputs high (not_opened name) h = absurd h
   write_to_is n outputs high (read file room bytes) h = absurd h
@@ -103,22 +104,22 @@ module _ (P : Call → Type 0) (of_create : (name : List ℕ) (file : ℕ) → P
   each_ending [] = tt
   each_ending (t ∷ targets) = (of_finish t.0, each_ending targets)
 
-  each_at_once : (n : ℕ) (outputs : List Output) → 2 ≤ n → Each P (MakesAtOnce n outputs)
+  each_at_once : (n : ℕ) (outputs : List Output) → first ≤ n → Each P (MakesAtOnce n outputs)
   each_at_once n outputs high calls t =
       let rest = t.does_second in
       let woven = each_as (IsWriteTo (numbered n outputs)) P (write_to_is n outputs high) rest.front rest.does_first.each in
       let back = subst (AllByRecursion P) (sym rest.split) (each_then P rest.front rest.back woven (subst (AllByRecursion P) (sym rest.does_second) (each_ending (numbered n outputs)))) in
       subst (AllByRecursion P) (sym t.split) (each_then P t.front t.back (subst (AllByRecursion P) (sym t.does_first) (each_creation n outputs)) back)
 
-  each_in_turn : (n : ℕ) (outputs : List Output) → 2 ≤ n → Each P (MakesInTurn n outputs)
+  each_in_turn : (n : ℕ) (outputs : List Output) → first ≤ n → Each P (MakesInTurn n outputs)
   each_in_turn n [] high = λ calls none. subst (AllByRecursion P) (sym none) tt
   each_in_turn n (o ∷ outputs) high = each_of_both P (MakesAtOnce n (o ∷ [])) (MakesInTurn (n + 1) outputs) (each_at_once n (o ∷ []) high) (each_in_turn (n + 1) outputs (omega arith))
 
-  each_made : (order : Order) (n : ℕ) (outputs : List Output) → 2 ≤ n → Each P (MakesAs order n outputs)
+  each_made : (order : Order) (n : ℕ) (outputs : List Output) → first ≤ n → Each P (MakesAs order n outputs)
   each_made at_once n outputs high = each_at_once n outputs high
   each_made in_turn n outputs high = each_in_turn n outputs high
 
-  pub each_for_outputs : {C : Type 0} (order : Order) (n : ℕ) (a : Answer C) → 2 ≤ n → Each P (DeliversAnswer order n a)
-  each_for_outputs order n (done outputs report) high =
-      each_of_both P (MakesAs order n outputs) (AreWrites 0 report) (each_made order n outputs high) (each_written 0 report P (λ piece some. of_write 0 piece (λ wrong. absurd (cc))))
-  each_for_outputs order n (refused why) high = λ calls wrong. absurd wrong
+  pub each_for_outputs : {C : Type 0} (order : Order) (a : Answer C) → Each P (DeliversAnswer order first a)
+  each_for_outputs order (done outputs report) =
+      each_of_both P (MakesAs order first outputs) (AreWrites 0 report) (each_made order first outputs (omega arith)) (each_written 0 report P (λ piece some. of_write 0 piece (inl refl) some))
+  each_for_outputs order (refused why) = λ calls wrong. absurd wrong

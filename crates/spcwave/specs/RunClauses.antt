@@ -17,7 +17,8 @@ use Rattle.command_runner.specs.Leaves.{LeavesNothing, LeavesAll, LeavesPart, Re
 use Rattle.exit_status.specs.declared.status.Status.{Status}
 use Rattle.exit_status.specs.declared.status.Status.TheVariants as statuses
 use Rattle.command_line.specs.Command.{Command, usage, render, rip}
-use Rattle.spcwave.specs.Answers.{answer_by, answer_of, inputs_of, order_of}
+use Rattle.run_laws.specs.Answers.{answer_of, inputs_of}
+use Rattle.run_laws.specs.MakesCalls.{MakesCalls}
 use Rattle.exit_status.specs.Statuses.{status_of, answer_status, end_without_numbers}
 use Rattle.exit_status.specs.Lines.{end_line, status_line}
 
@@ -28,22 +29,6 @@ max_outputs_before = 4000000000
 -- fewer than that were created on the host
 abbrev pub HasFewOutputs : HostState → Type 0
 HasFewOutputs state = length state.ended < max_outputs_before
-
--- The calls that a run makes, in their order: those for its inputs, those for its outputs and its report, those for its line of complaint, and no
--- others. So nothing comes after a call that failed but the complaint. What is answered goes by the bytes that the inputs gave.
-pub record MakesCalls (command : Command) (old new : HostState) (status : Status) : Type 0 where
-  pub refusal : Option (Refusal Cause)
-  pub status_is : status ≡ status_of refusal
-  -- the bytes that each input gave
-  pub given : List (List ℕ)
-  pub taken : List Call
-  pub made : List Call
-  pub note : List Call
-  pub since : Since (taken ++ made ++ note) old new
-  pub ends : EndsBy (order_of command) (answer_by command) (inputs_of command) refusal (length old.ended + 2) given taken made
-  pub complaint : AreNoted (end_line refusal) note
-  -- Words that say no command end as such, whatever memory there is.
-  pub misread : (refusal ≡ Some Usage) ↔ (command ≡ usage)
 
 -- What stands on the host where the status is the answer's, and the complaint of every status.
 pub record Content (command : Command) (old new : HostState) (status : Status) : Type 0 where

@@ -3,7 +3,7 @@ ghost use Rattle.std.specs.Prelude.{◌≡◌, ◌↔◌, map, string_bytes};
 ghost use Rattle.snd_host.specs.Host.{HostState};
 ghost use Rattle.command_runner.specs.Conduct.{AttemptsAs};
 ghost use Rattle.command_line.specs.Command.{command_of, usage};
-ghost use Rattle.spcwave.specs.Answers.{answer_by, inputs_of, order_of};
+ghost use Rattle.run_laws.specs.Answers.{answer_by, inputs_of, order_of};
 ghost use Rattle.spcwave.specs.RunClauses.{HasFewOutputs, MakesOutputs, IsRun};
 
 use command_asm::asm;

@@ -1,7 +1,7 @@
 use Rattle.std.proofs.Common.{Some, subst}
 use Rattle.command_runner.specs.declared.refusals.Refusal.TheVariants.{Usage}
 use Rattle.command_line.specs.Command.{Command}
-use Rattle.spcwave.specs.Answers.{answer_by, inputs_of, order_of}
+use Rattle.run_laws.specs.Answers.{answer_by, inputs_of, order_of}
 use Rattle.command_runner.specs.Conduct.{AttemptsAs}
 use Rattle.command_runner.proofs.Obeying.{attempts_usage}
 use Rattle.spcwave.specs.RunClauses.{MakesOutputs}
