@@ -1,5 +1,7 @@
 pub mod Attempting
 pub mod Delivering
+pub mod EachCall
+pub mod Fronts
 pub mod Leaving
 pub mod Listing
 pub mod Making

@@ -1,22 +1,20 @@
 -- What calls come to that are made for inputs, for outputs and for a line of complaint: in the counts of faults, in the complaint, and in what
 -- stands of the outputs. Each kind of call leaves all that isn't its own as it was, and so do all calls of that kind; one that failed adds one to its
 -- count.
-use Rattle.std.proofs.Common.{◌≡◌, ◌≢◌, ◌⊎◌, inl, inr, ℕ, zero, suc, ◌+◌, ◌≤◌, Bool, true, false, List, [], ◌∷◌, ◌++◌, Option, Some, None, if◌then◌else◌, refl, sym, ap, ◌∙◌, subst, arith}
-use Rattle.std.specs.Prelude.{◌==◌}
+use Rattle.std.proofs.Common.{◌≡◌, ◌≢◌, ◌⊎◌, inl, inr, ℕ, zero, suc, ◌≤◌, Bool, List, [], ◌∷◌, ◌++◌, if◌then◌else◌, refl, sym, ap, ◌∙◌, arith}
 use Rattle.std.specs.List.{AllByRecursion}
 use Rattle.std.proofs.lemmas.List.{append_assoc, append-nil}
-use Rattle.snd_host.specs.Calls.{Call, opened, read, created, wrote, not_written, finished}
+use Rattle.snd_host.specs.Calls.{Call, wrote}
 use Rattle.snd_host.specs.Host.{Output, IsPrefix, next_count}
 use Rattle.snd_host.specs.Follows.{pushed, failure_of, IsCut, IsBegun, IsWrite, AreWrites, bytes_written}
-use Rattle.snd_host.proofs.CallsInOrder.{pushed_more}
+use Rattle.snd_host.proofs.CallsInOrder.{pushed_more, bytes_more}
 use Rattle.command_runner.specs.Answer.{Answer}
 use Rattle.command_runner.specs.NamedInputs.{NamedInput, TakesInOrder}
 use Rattle.command_runner.specs.OutputCalls.{Order}
 use Rattle.command_runner.specs.RunCalls.{DeliversAnswer}
-use Rattle.command_runner.proofs.Woven.{write_is}
-use Rattle.run_laws.proofs.Below.{other_number, bytes_more}
+use Rattle.command_runner.proofs.Woven.{write_is, other_number}
 use Rattle.run_laws.specs.History.{given_of, ended_of, in_faults, note_faults, out_faults}
-use Rattle.run_laws.proofs.EachCall.{Each, all_first, one_of, each_for_inputs, each_for_outputs, each_written}
+use Rattle.command_runner.proofs.EachCall.{Each, all_first, one_of, each_for_inputs, each_for_outputs, each_written}
 
 pub record Counts : Type 0 where
   pub inputs : ℕ

@@ -1,11 +1,11 @@
 -- What the calls of a command come to before its complaint, by how it ends. An end is that of the answer, or one of three others; where an input
 -- could not be read or memory was wanting nothing was made, and where an output could not be written a front of the delivery was.
-use Rattle.std.proofs.Common.{◌≡◌, ◌≢◌, ◌⊎◌, inl, inr, ℕ, ◌+◌, ◌≤◌, Bool, true, List, [], ◌∷◌, ◌++◌, length, Option, Some, None, refl, sym, ap, ◌∙◌, subst}
+use Rattle.std.proofs.Common.{◌≡◌, ◌≢◌, inl, inr, ℕ, ◌+◌, ◌≤◌, Bool, List, [], ◌∷◌, ◌++◌, length, Option, Some, None, refl, sym, ap, ◌∙◌, subst}
 use Rattle.std.specs.Prelude.{IsTrue}
 use Rattle.std.proofs.lemmas.List.{append-nil}
 use Rattle.snd_host.specs.Calls.{Call}
 use Rattle.snd_host.specs.Host.{Output, IsPrefix}
-use Rattle.snd_host.specs.Follows.{pushed, IsCut, IsBegun}
+use Rattle.snd_host.specs.Follows.{pushed, IsCut}
 use Rattle.snd_host.proofs.CallsInOrder.{pushed_more}
 use Rattle.command_runner.specs.Answer.{Answer, done, refused, refusal_of, outputs_of, report_of}
 use Rattle.command_runner.specs.Delivery as delivery
@@ -16,10 +16,10 @@ use Rattle.command_runner.specs.RunCalls.{DeliversAnswer, EndsBy}
 use Rattle.command_runner.specs.declared.refusals.Refusal.{Refusal}
 use Rattle.command_runner.specs.declared.refusals.Refusal.TheVariants.{Usage, ReadFault, WriteFault, OutOfMemory, Input}
 use Rattle.run_laws.specs.History.{ended_of}
-use Rattle.run_laws.proofs.Ends.{IsEnd}
+use Rattle.exit_status.proofs.Ends.{IsEnd}
 use Rattle.run_laws.proofs.Counting.{Counts, counts_of, Standing, standing, input_failed, output_failed, taken_counts, taken_left, taken_cut_counts, taken_cut_left, taken_begun_counts, taken_begun_left, made_counts, made_cut_counts, made_cut_left}
 use Rattle.run_laws.proofs.Making.{grown, grown_none}
-use Rattle.run_laws.proofs.Parting.{LeftPartly, delivers_all, delivers_part}
+use Rattle.run_laws.proofs.Parting.{delivers_all, delivers_part}
 
 -- the counts after an end
 abbrev pub faulted : {C : Type 0} → Option (Refusal C) → Counts → Counts

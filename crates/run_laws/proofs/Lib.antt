@@ -1,15 +1,9 @@
--- Below: what the crates below do not export.
--- Ends: how a run ends, by its status and by the answer.
--- EachCall: what holds of each call that a command makes.
 -- Counting: what calls come to in the counts of faults and in the complaint.
 -- Making: what stands of outputs after a front of the calls that make them.
 -- Parting: what a front of a delivery leaves is a part of what all of it leaves.
 -- Ending: what the calls of a command come to, by how it ends.
 -- Runs: laws of a run over any answer. OfRuns: a run by its command is one of these.
 -- Rendering: what a render wrote, by the calls that it made.
-pub mod Below
-pub mod Ends
-pub mod EachCall
 pub mod Counting
 pub mod Making
 pub mod Parting

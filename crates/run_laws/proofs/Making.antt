@@ -1,24 +1,19 @@
 -- What stands of outputs after a front of the calls that make them. Outputs are made at once in three phases (all are created, then written in any
 -- order, then ended), and in each phase the outputs so far, their bytes and their flags are read off the calls of the front. In turn, all but the
 -- last are whole and ended. So a front leaves a part, and all calls leave all.
-use Rattle.std.proofs.Common.{◌≡◌, ◌≢◌, ◌⊎◌, inl, inr, ℕ, zero, suc, ◌+◌, ◌-◌, ◌≤◌, ◌<◌, Bool, true, false, List, [], ◌∷◌, ◌++◌, length, map, if◌then◌else◌, refl, sym, ap, ◌∙◌, subst, arith}
-use Rattle.std.specs.Prelude.{◌==◌, slice_set, replicate}
+use Rattle.std.proofs.Common.{◌≡◌, ◌≢◌, ℕ, zero, suc, ◌+◌, ◌-◌, ◌≤◌, ◌<◌, Bool, true, false, List, [], ◌∷◌, ◌++◌, length, map, if◌then◌else◌, refl, sym, ap, ◌∙◌, arith}
+use Rattle.std.specs.Prelude.{◌==◌, slice_set}
 use Rattle.std.specs.List.{AllByRecursion}
 use Rattle.std.proofs.Math.Seq.{set-append_seam}
 use Rattle.std.proofs.lemmas.List.{append_assoc, append-nil, length-append, length-set}
 use Rattle.snd_host.specs.Calls.{Call, opened, not_opened, read, not_read, created, not_created, wrote, not_written, finished, not_finished}
-use Rattle.snd_host.specs.Host.{Output, IsPrefix, outputs_with}
-use Rattle.snd_host.specs.Follows as follows
+use Rattle.snd_host.specs.Host.{Output, outputs_with}
 use Rattle.snd_host.specs.Follows.{pushed}
-use Rattle.snd_host.proofs.CallsInOrder.{pushed_more}
-use Rattle.command_runner.specs.Delivery.{IsBegun, EndedAreWhole, AreEndedInOrder, all_ended}
-use Rattle.command_runner.specs.InOrder.{Then}
-use Rattle.command_runner.specs.OutputCalls.{Target, IsWriteTo, AreWoven, AreCreations, AreEndings, numbered, creations, endings, bytes_to, MakesAtOnce, MakesInTurn, MakesAs, Order, at_once, in_turn}
-use Rattle.command_runner.proofs.Woven.{bytes_more}
+use Rattle.command_runner.specs.OutputCalls.{IsWriteTo, numbered, creations, endings, bytes_to}
+use Rattle.command_runner.proofs.Woven.{bytes_more, same_number, other_number}
 use Rattle.run_laws.specs.History.{given_of, ended_of}
-use Rattle.run_laws.proofs.Below.{same_number, other_number}
 use Rattle.run_laws.proofs.Counting.{Standing, standing}
-use Rattle.run_laws.proofs.EachCall.{from_first}
+use Rattle.command_runner.proofs.EachCall.{from_first}
 
 -- with these bytes of the report, these outputs and their flags more
 abbrev pub grown : (report : List ℕ) → (outputs : List Output) → (flags : List Bool) → Standing → Standing

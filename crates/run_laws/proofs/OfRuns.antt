@@ -11,7 +11,7 @@ use Rattle.exit_status.specs.Statuses.{status_of, end_without_numbers}
 use Rattle.command_line.specs.Command.{Command, usage}
 use Rattle.run_laws.specs.Answers.{answer_by, inputs_of, order_of}
 use Rattle.run_laws.specs.MakesCalls.{MakesCalls}
-use Rattle.run_laws.proofs.Ends.{plain_is}
+use Rattle.exit_status.proofs.Ends.{plain_is}
 use Rattle.run_laws.proofs.Runs.{RunBy}
 
 module _ (command : Command) (old new : HostState) (status : Status) (run : MakesCalls command old new status) where

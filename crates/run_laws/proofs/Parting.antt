@@ -1,55 +1,24 @@
 -- What a front of a delivery leaves is a part of what all of it leaves. A front of two things done one after the other is a front of the first, or
 -- all of the first and a front of the second; so each phase of a delivery is looked at alone, after all those before it.
-use Rattle.std.proofs.Common.{◌≡◌, ◌≢◌, ◌⊎◌, inl, inr, ℕ, zero, suc, ◌+◌, Bool, true, false, List, [], ◌∷◌, ◌++◌, length, map, refl, sym, ap, ◌∙◌, subst, arith}
+use Rattle.std.proofs.Common.{◌≡◌, ◌≢◌, ℕ, zero, suc, ◌+◌, Bool, true, false, List, [], ◌∷◌, ◌++◌, length, refl, sym, ap, ◌∙◌, subst, arith}
 use Rattle.std.specs.Prelude.{replicate}
 use Rattle.std.specs.List.{AllByRecursion}
 use Rattle.std.proofs.lemmas.List.{append_assoc, append-nil, length-append}
-use Rattle.snd_host.specs.Calls.{Call, wrote}
+use Rattle.snd_host.specs.Calls.{Call}
 use Rattle.snd_host.specs.Host.{Output, IsPrefix}
 use Rattle.snd_host.specs.Follows as follows
 use Rattle.snd_host.specs.Follows.{pushed, IsWrite, AreWrites, bytes_written}
-use Rattle.snd_host.proofs.CallsInOrder.{pushed_more}
+use Rattle.snd_host.proofs.CallsInOrder.{pushed_more, bytes_more}
 use Rattle.command_runner.specs.Delivery.{IsBegun, EndedAreWhole, AreEndedInOrder, all_ended}
 use Rattle.command_runner.specs.InOrder.{Then}
 use Rattle.command_runner.specs.OutputCalls.{IsWriteTo, AreWoven, AreCreations, AreEndings, numbered, creations, endings, bytes_to, MakesAtOnce, MakesInTurn, MakesAs, DeliversAs, Order, at_once, in_turn}
 use Rattle.command_runner.proofs.Woven.{write_is}
 use Rattle.command_runner.proofs.Woven as woven
+use Rattle.command_runner.proofs.Fronts.{BeginsThen, begins_first, begins_second, begins_then}
 use Rattle.run_laws.specs.History.{given_of, ended_of}
-use Rattle.run_laws.proofs.Below.{bytes_more}
 use Rattle.run_laws.proofs.Counting.{Standing, standing}
-use Rattle.run_laws.proofs.EachCall.{all_first}
+use Rattle.command_runner.proofs.EachCall.{all_first}
 use Rattle.run_laws.proofs.Making.{grown, grown_none, grown_twice, flag_each, begun_by, none_ended, written, ended_by, after_creations, after_writes, after_endings}
-
--- A front of two lists.
-
--- The front ends in the first list, or behind it.
-data FrontOf (xs ys us vs : List Call) : Type 0 where
-  within : (left : List Call) → xs ++ left ≡ us → FrontOf xs ys us vs
-  behind : (more : List Call) → us ++ more ≡ xs → more ++ ys ≡ vs → FrontOf xs ys us vs
-
-front_of : (xs ys us vs : List Call) → xs ++ ys ≡ us ++ vs → FrontOf xs ys us vs
-front_of [] ys us vs is = within us refl
-front_of (x ∷ xs) ys [] vs is = behind (x ∷ xs) refl is
-front_of (x ∷ xs) ys (u ∷ us) vs is = more (front_of xs ys us vs (cc))
-  where
-    same : x ≡ u
-    same = cc
-
-    more : FrontOf xs ys us vs → FrontOf (x ∷ xs) ys (u ∷ us) vs
-    more (within left split) = within left (ap (λ (l : List Call). x ∷ l) split ∙ ap (λ (c : Call). c ∷ us) same)
-    more (behind rest split end) = behind rest (ap (λ (l : List Call). u ∷ l) split ∙ ap (λ (c : Call). c ∷ xs) (sym same)) end
-
--- The first thing was begun, or it was done and the second begun.
-pub data BeginsThen (A B : List Call → Type 0) (calls : List Call) : Type 0 where
-  begins_first : follows.IsBegun A calls → BeginsThen A B calls
-  begins_second : (us vs : List Call) → calls ≡ us ++ vs → A us → follows.IsBegun B vs → BeginsThen A B calls
-
-pub begins_then : (A B : List Call → Type 0) (calls : List Call) → follows.IsBegun (Then A B) calls → BeginsThen A B calls
-begins_then A B calls begun = by (front_of calls begun.rest begun.whole.front begun.whole.back begun.whole.split)
-  where
-    by : FrontOf calls begun.rest begun.whole.front begun.whole.back → BeginsThen A B calls
-    by (within left split) = begins_first (record { rest = left; whole = subst A (sym split) begun.whole.does_first })
-    by (behind more split end) = begins_second begun.whole.front more (sym split) begun.whole.does_first (record { rest = begun.rest; whole = subst B (sym end) begun.whole.does_second })
 
 -- Parts of outputs.
 

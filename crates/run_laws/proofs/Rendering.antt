@@ -20,7 +20,7 @@ use Rattle.command_line.specs.Command.{render}
 use Rattle.run_laws.specs.Answers.{answer_by}
 use Rattle.run_laws.specs.Rendered.{WritesFrames}
 use Rattle.run_laws.specs.MakesCalls.{MakesCalls}
-use Rattle.run_laws.proofs.Ends.{plain_is}
+use Rattle.exit_status.proofs.Ends.{plain_is}
 
 module _ (file table wave : List ℕ) (options : Options) (m : ℕ) (made taken : List Call) where
   abbrev Delivered : Answer Cause → Type 0

@@ -7,9 +7,9 @@ use Rattle.snd_host.specs.Calls.{Call}
 use Rattle.snd_host.specs.Host.{Output, IsPrefix, next_count, Rose}
 use Rattle.snd_host.specs.Follows.{pushed, bytes_written, IsCut, AreWrites}
 use Rattle.snd_host.proofs.CallsInOrder.{pushed_more}
-use Rattle.command_runner.specs.Answer.{Answer, refusal_of, outputs_of, report_of, line_of}
+use Rattle.command_runner.specs.Answer.{Answer, refusal_of, outputs_of}
 use Rattle.command_runner.specs.Delivery.{all_ended}
-use Rattle.command_runner.specs.NamedInputs.{NamedInput, Held, held_of, are_some, TakesInOrder}
+use Rattle.command_runner.specs.NamedInputs.{NamedInput, Held, held_of, are_some}
 use Rattle.command_runner.specs.OutputCalls.{Order}
 use Rattle.command_runner.specs.RunCalls.{EndsBy, AreNoted}
 use Rattle.command_runner.specs.declared.refusals.Refusal.{Refusal}
@@ -21,8 +21,8 @@ use Rattle.exit_status.specs.Statuses.{status_of, answer_status, end_without_num
 use Rattle.exit_status.specs.Lines.{end_line, status_line}
 use Rattle.run_laws.specs.History.{given_of, ended_of, in_faults, note_faults, out_faults}
 use Rattle.run_laws.specs.Left.{Leaves, LeavesNothing, LeavesAll, LeavesPart, ReportsLast, Complains, KeepsCounts, NoneRose}
-use Rattle.run_laws.proofs.Ends.{IsEnd, plain_is, line_end, same_end}
-use Rattle.run_laws.proofs.Counting.{Counts, counts_of, Standing, standing, complained, note_failed, note_counts, note_left, note_cut_counts, note_cut_left, cut_prefix, no_cut_of_none}
+use Rattle.exit_status.proofs.Ends.{IsEnd, plain_is, line_end, same_end}
+use Rattle.run_laws.proofs.Counting.{Counts, counts_of, Standing, standing, note_counts, note_left, note_cut_counts, note_cut_left, cut_prefix, no_cut_of_none}
 use Rattle.run_laws.proofs.Making.{grown, grown_none}
 use Rattle.run_laws.proofs.Ending.{Stands, faulted, is_end, names_input, end_counts, end_stands, end_leaves_nothing, cut_accepted}
 

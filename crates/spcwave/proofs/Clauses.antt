@@ -19,7 +19,7 @@ use Rattle.exit_status.specs.declared.status.Status.TheVariants as statuses
 use Rattle.command_line.specs.Command.{Command, usage, render, rip}
 use Rattle.run_laws.specs.Answers.{answer_by, answer_of, inputs_of, order_of}
 use Rattle.run_laws.specs.MakesCalls.{MakesCalls}
-use Rattle.run_laws.proofs.Ends.{IsEnd, plain_is, line_end, same_end}
+use Rattle.exit_status.proofs.Ends.{IsEnd, plain_is, line_end, same_end}
 use Rattle.exit_status.specs.Statuses.{status_of, answer_status, end_without_numbers}
 use Rattle.exit_status.specs.Lines.{end_line, refusal_line}
 use Rattle.spcwave.specs.RunClauses as clause

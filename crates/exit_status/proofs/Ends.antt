@@ -1,5 +1,5 @@
 -- How a run ends, by its status and by the answer.
-use Rattle.std.proofs.Common.{◌≡◌, ◌⊎◌, inl, inr, ℕ, Option, Some, None, refl, sym, ◌∙◌, ap}
+use Rattle.std.proofs.Common.{◌≡◌, ◌⊎◌, inl, inr, Option, Some, None, refl, sym, ◌∙◌, ap}
 use Rattle.std.specs.Prelude.{unwrap_or}
 use Rattle.command_runner.specs.Answer.{Answer, refusal_of}
 use Rattle.command_runner.specs.declared.refusals.Refusal.{Refusal}
