@@ -27,6 +27,30 @@ faulted (Some ReadFault) c = input_failed c
 faulted (Some WriteFault) c = output_failed c
 faulted r c = c
 
+pub faulted_note : {C : Type 0} (r : Option (Refusal C)) (c : Counts) → ((faulted r c).notes ≡ c.notes) × ((faulted r c).complaint ≡ c.complaint)
+faulted_note None c = (refl, refl)
+faulted_note (Some ReadFault) c = (refl, refl)
+faulted_note (Some WriteFault) c = (refl, refl)
+faulted_note (Some OutOfMemory) c = (refl, refl)
+faulted_note (Some Usage) c = (refl, refl)
+faulted_note (Some (Input cause)) c = (refl, refl)
+
+pub faulted_inputs : {C : Type 0} (r : Option (Refusal C)) (c : Counts) → (r ≡ Some ReadFault → ⊥) → (faulted r c).inputs ≡ c.inputs
+faulted_inputs None c other = refl
+faulted_inputs (Some ReadFault) c other = absurd (other refl)
+faulted_inputs (Some WriteFault) c other = refl
+faulted_inputs (Some OutOfMemory) c other = refl
+faulted_inputs (Some Usage) c other = refl
+faulted_inputs (Some (Input cause)) c other = refl
+
+pub faulted_outputs : {C : Type 0} (r : Option (Refusal C)) (c : Counts) → (r ≡ Some WriteFault → ⊥) → (faulted r c).outputs ≡ c.outputs
+faulted_outputs None c other = refl
+faulted_outputs (Some ReadFault) c other = refl
+faulted_outputs (Some WriteFault) c other = absurd (other refl)
+faulted_outputs (Some OutOfMemory) c other = refl
+faulted_outputs (Some Usage) c other = refl
+faulted_outputs (Some (Input cause)) c other = refl
+
 -- What stands after an end, by the answer.
 pub record Stands {C : Type 0} (a : Answer C) (r : Option (Refusal C)) (s now : Standing) : Type 0 where
   pub reported : List ℕ

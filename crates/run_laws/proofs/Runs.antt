@@ -13,7 +13,7 @@ use Rattle.command_runner.specs.NamedInputs.{NamedInput, Held, held_of, are_some
 use Rattle.command_runner.specs.OutputCalls.{Order}
 use Rattle.command_runner.specs.RunCalls.{EndsBy, AreNoted}
 use Rattle.command_runner.specs.declared.refusals.Refusal.{Refusal}
-use Rattle.command_runner.specs.declared.refusals.Refusal.TheVariants.{Usage, ReadFault, WriteFault, OutOfMemory, Input}
+use Rattle.command_runner.specs.declared.refusals.Refusal.TheVariants.{ReadFault, WriteFault, OutOfMemory}
 use Rattle.exit_status.specs.declared.cause.Cause.{Cause}
 use Rattle.exit_status.specs.declared.status.Status.{Status}
 use Rattle.exit_status.specs.declared.status.Status.TheVariants as statuses
@@ -24,7 +24,7 @@ use Rattle.run_laws.specs.Left.{Leaves, LeavesNothing, LeavesAll, LeavesPart, Re
 use Rattle.exit_status.proofs.Ends.{IsEnd, plain_is, line_end, same_end}
 use Rattle.run_laws.proofs.Counting.{Counts, counts_of, Standing, standing, note_counts, note_left, note_cut_counts, note_cut_left, cut_prefix, no_cut_of_none}
 use Rattle.run_laws.proofs.Making.{grown, grown_none}
-use Rattle.run_laws.proofs.Ending.{Stands, faulted, is_end, names_input, end_counts, end_stands, end_leaves_nothing, cut_accepted}
+use Rattle.run_laws.proofs.Ending.{Stands, faulted, faulted_note, faulted_inputs, faulted_outputs, is_end, names_input, end_counts, end_stands, end_leaves_nothing, cut_accepted}
 
 -- A run makes these calls: m outputs were created before it.
 pub record RunBy (order : Order) (answer : Held → Answer Cause) (inputs : List NamedInput) (m : ℕ) (status : Status) (old new : List Call) : Type 0 where
@@ -153,27 +153,11 @@ module _ (order : Order) (answer : Held → Answer Cause) (inputs : List NamedIn
   line_is : status_line status answered ≡ end_line run.refusal
   line_is = ap end_line (ap (λ (s : Status). unwrap_or (end_without_numbers s) (refusal_of answered)) run.status_is ∙ line_end run.refusal answered end)
 
-  faulted_notes : (r : Option (Refusal Cause)) (c : Counts) → (faulted r c).notes ≡ c.notes
-  faulted_notes None c = refl
-  faulted_notes (Some ReadFault) c = refl
-  faulted_notes (Some WriteFault) c = refl
-  faulted_notes (Some OutOfMemory) c = refl
-  faulted_notes (Some Usage) c = refl
-  faulted_notes (Some (Input cause)) c = refl
-
-  faulted_complaint : (r : Option (Refusal Cause)) (c : Counts) → (faulted r c).complaint ≡ c.complaint
-  faulted_complaint None c = refl
-  faulted_complaint (Some ReadFault) c = refl
-  faulted_complaint (Some WriteFault) c = refl
-  faulted_complaint (Some OutOfMemory) c = refl
-  faulted_complaint (Some Usage) c = refl
-  faulted_complaint (Some (Input cause)) c = refl
-
   notes_before : note_faults attempted ≡ note_faults old
-  notes_before = ap (λ (c : Counts). c.notes) counts ∙ faulted_notes run.refusal (counts_of old)
+  notes_before = ap (λ (c : Counts). c.notes) counts ∙ (faulted_note run.refusal (counts_of old)).0
 
   complaint_before : (given_of attempted).complaint ≡ (given_of old).complaint
-  complaint_before = ap (λ (c : Counts). c.complaint) counts ∙ faulted_complaint run.refusal (counts_of old)
+  complaint_before = ap (λ (c : Counts). c.complaint) counts ∙ (faulted_note run.refusal (counts_of old)).1
 
   pub complains : Complains (status_line status answered) old new
   complains = subst (λ (l : List Call). Complains (status_line status answered) old l) (sym new_is) (subst (λ (line : List ℕ). Complains line old (pushed run.note attempted)) (sym line_is) (record {
@@ -195,22 +179,6 @@ module _ (order : Order) (answer : Held → Answer Cause) (inputs : List NamedIn
 
   outputs_count : out_faults new ≡ (faulted run.refusal (counts_of old)).outputs
   outputs_count = ap out_faults new_is ∙ complains_of.outputs ∙ ap (λ (c : Counts). c.outputs) counts
-
-  faulted_inputs : (r : Option (Refusal Cause)) (c : Counts) → (r ≡ Some ReadFault → ⊥) → (faulted r c).inputs ≡ c.inputs
-  faulted_inputs None c other = refl
-  faulted_inputs (Some ReadFault) c other = absurd (other refl)
-  faulted_inputs (Some WriteFault) c other = refl
-  faulted_inputs (Some OutOfMemory) c other = refl
-  faulted_inputs (Some Usage) c other = refl
-  faulted_inputs (Some (Input cause)) c other = refl
-
-  faulted_outputs : (r : Option (Refusal Cause)) (c : Counts) → (r ≡ Some WriteFault → ⊥) → (faulted r c).outputs ≡ c.outputs
-  faulted_outputs None c other = refl
-  faulted_outputs (Some ReadFault) c other = refl
-  faulted_outputs (Some WriteFault) c other = absurd (other refl)
-  faulted_outputs (Some OutOfMemory) c other = refl
-  faulted_outputs (Some Usage) c other = refl
-  faulted_outputs (Some (Input cause)) c other = refl
 
   pub unread : status ≢ statuses.ReadFault → in_faults new ≡ in_faults old
   unread other = inputs_count ∙ faulted_inputs run.refusal (counts_of old) (λ is. other (status_is (Some ReadFault) is))
