@@ -77,8 +77,8 @@ pub from_first : (n file : ℕ) (outputs : List Output) → list_any (λ target.
 from_first n file [] h = absurd (cc)
 from_first n file (o ∷ outputs) h =
     elim (or_true (n == file) (list_any (λ target. target.0 == file) (numbered (n + 1) outputs)) h) [
-      inl is ↦ omega (arith, eqb-true n file is)
-    | inr more ↦ omega (arith, from_first (n + 1) file outputs more)
+      | inl is ↦ omega (arith, eqb-true n file is)
+      | inr more ↦ omega (arith, from_first (n + 1) file outputs more)
     ]
 
 -- Calls for outputs and the report: creations, endings, and writes of some bytes to the report or to outputs from the first number on.

@@ -160,8 +160,8 @@ after_endings (o ∷ outputs) n (c ∷ done) rest history flags is number was =
     let more : done ++ rest ≡ endings (numbered (n + 1) outputs) = cc in
     let place : n - 2 ≡ length flags = omega arith in
     let set : slice_set (ended_of history) (n - 2) true ≡ (flags ++ true ∷ []) ++ none_ended outputs =
-        ap (λ (l : List Bool). slice_set l (n - 2) true) was ∙ ap (λ (k : ℕ). slice_set (flags ++ false ∷ none_ended outputs) k true) place ∙ set-append_seam flags false (none_ended outputs) true
-        ∙ sym (append_assoc flags (true ∷ []) (none_ended outputs)) in
+    ap (λ (l : List Bool). slice_set l (n - 2) true) was ∙ ap (λ (k : ℕ). slice_set (flags ++ false ∷ none_ended outputs) k true) place ∙ set-append_seam flags false (none_ended outputs) true
+    ∙ sym (append_assoc flags (true ∷ []) (none_ended outputs)) in
     let now : ended_of (c ∷ history) ≡ (flags ++ true ∷ []) ++ none_ended outputs = ap (λ (call : Call). ended_of (call ∷ history)) here ∙ set in
     after_endings outputs (n + 1) done rest (c ∷ history) (flags ++ true ∷ []) more (number_after number) now
     ∙ ap (λ (call : Call). record (standing (call ∷ history)) { ended = (flags ++ true ∷ []) ++ ended_by done outputs }) here

@@ -1,5 +1,5 @@
 -- A run by its command is a run by what the command answers.
-use Rattle.std.proofs.Common.{◌≡◌, ◌≢◌, ℕ, ◌+◌, List, length, Option, Some, refl, sym, ap, ◌∙◌}
+use Rattle.std.proofs.Common.{◌≡◌, ◌≢◌, length, Option, Some, sym, ap, ◌∙◌}
 use Rattle.std.specs.Prelude.{◌↔◌}
 use Rattle.snd_host.specs.Host.{HostState}
 use Rattle.command_runner.specs.declared.refusals.Refusal.{Refusal}
@@ -15,7 +15,7 @@ use Rattle.exit_status.proofs.Ends.{plain_is}
 use Rattle.run_laws.proofs.Runs.{RunBy}
 
 module _ (command : Command) (old new : HostState) (status : Status) (run : MakesCalls command old new status) where
-  pub of_run : RunBy (order_of command) (answer_by command) (inputs_of command) (length old.ended) status old.calls new.calls
+  abbrev pub of_run : RunBy (order_of command) (answer_by command) (inputs_of command) (length old.ended) status old.calls new.calls
   of_run = record {
     refusal = run.refusal;
     status_is = run.status_is;
