@@ -8,12 +8,11 @@ use Rattle.command_runner.specs.Conduct.{IsOfDelivery, AttemptsAs, WritesComplai
 use Rattle.command_runner.specs.Delivery.{all_ended}
 use Rattle.command_runner.specs.Leaves.{Leaves, LeavesNothing, LeavesAll, Complains}
 use Rattle.command_runner.specs.declared.refusals.Refusal.{Refusal}
-use Rattle.command_runner.specs.declared.refusals.Refusal.TheVariants.{Usage, ReadFault, WriteFault, OutOfMemory, Input}
+use Rattle.command_runner.specs.declared.refusals.Refusal.TheVariants.{Usage, ReadFault, WriteFault, OutOfMemory}
 use Rattle.command_runner.proofs.Sequences.{since_then}
 use Rattle.command_runner.proofs.Making.{at_once_complained, in_turn_complained}
 use Rattle.command_runner.proofs.Leaving.{leaves, complains, reports_last, reports_behind_ended}
 use Rattle.exit_status.specs.declared.cause.Cause.{Cause}
-use Rattle.exit_status.specs.declared.cause.Cause.TheVariants.{SpcLength, SpcSignature, TableLength, BrrLength, WavForm, EncodeSize, InputTooLong, AsmLine, CodeLength, CutList, Script}
 use Rattle.exit_status.specs.declared.status.Status.{Status}
 use Rattle.exit_status.specs.declared.status.Status.TheVariants as statuses
 use Rattle.command_line.specs.Command.{Command, usage, render, rip}
