@@ -1,7 +1,7 @@
 use Rattle.std.proofs.Common.{◌+◌, length}
 use Rattle.command_runner.proofs.PlainRuns.{ends_plain}
-use Rattle.spcwave.specs.Answers.{answer_by, inputs_of, order_of}
-use Rattle.spcwave.proofs.laws.a_run_stops_at_its_first_failed_call.Goals as goal
+use Rattle.run_laws.specs.Answers.{answer_by, inputs_of, order_of}
+use Rattle.run_laws.proofs.laws.a_run_stops_at_its_first_failed_call.Goals as goal
 
 pub returns : goal.returns
 returns c = λ command old new status run.

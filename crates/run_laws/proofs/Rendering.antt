@@ -17,10 +17,10 @@ use Rattle.input_files.specs.Reading.{answer_from}
 use Rattle.command_render.specs.Options.{Options}
 use Rattle.command_render.specs.Render.{length_with, muted_voices, traced_voices, rendered_wave, rendered_trace, rendering_answer, file_answer, render_over, render_inputs}
 use Rattle.command_line.specs.Command.{render}
-use Rattle.spcwave.specs.Answers.{answer_by}
-use Rattle.spcwave.specs.Rendered.{WritesFrames}
-use Rattle.spcwave.specs.RunClauses.{MakesCalls}
-use Rattle.spcwave.proofs.Clauses.{plain_is}
+use Rattle.run_laws.specs.Answers.{answer_by}
+use Rattle.run_laws.specs.Rendered.{WritesFrames}
+use Rattle.run_laws.specs.MakesCalls.{MakesCalls}
+use Rattle.exit_status.proofs.Ends.{plain_is}
 
 module _ (file table wave : List ℕ) (options : Options) (m : ℕ) (made taken : List Call) where
   abbrev Delivered : Answer Cause → Type 0
