@@ -1,0 +1,4 @@
+-- how what a command answers goes by its inputs
+pub mod GoesBy
+-- what the calls of a host come to
+pub mod History
