@@ -10,6 +10,7 @@ use Rattle.command_runner.specs.Answer.{Answer}
 use Rattle.command_runner.specs.NamedInputs.{NamedInput, Held, held_by, held_of, TakesInOrder}
 use Rattle.run_laws.specs.GoesBy.{GoesBy, GoesByFirst}
 use Rattle.run_laws.specs.History.{AreTrueOf}
+use Rattle.run_laws.proofs.Cuts.{not_empty}
 use Rattle.run_laws.proofs.Held.{AreTrueOf-append, GaveFront, gave_front}
 
 pub opened_is_there : (files : Files) (history before after : List Call) (name : List ℕ) (file : ℕ) → AreTrueOf files history (before ++ opened name file ∷ after) → IsSome (files name)
@@ -38,10 +39,6 @@ answer-given {C = C} files (input ∷ inputs) answer (bytes ∷ given) taken his
         (λ is more. answer-given files inputs (λ l. answer (Some bytes ∷ l)) given takes.back (pushed takes.front history) (goes.1 bytes is) more parts.1)
         (input.accepts (Some bytes)) refl takes.does_second
     ∙ sym (answer-front files input answer bytes (held_by files inputs) goes.0 (gave_front files input.name input.limit bytes takes.front history takes.does_first parts.0))
-
-pub not_empty : {A : Type 0} (xs : List A) (y : A) (ys : List A) → xs ++ y ∷ ys ≡ [] → ⊥
-not_empty [] y ys none = absurd (cc)
-not_empty (x ∷ xs) y ys none = absurd (cc)
 
 pub no_cut : (given : List (List ℕ)) (taken : List Call) → IsCut (TakesInOrder [] given) taken → ⊥
 no_cut given taken cut = not_empty cut.done cut.call cut.rest cut.whole.1

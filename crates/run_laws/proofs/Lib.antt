@@ -1,2 +1,4 @@
+pub mod Cuts
 pub mod Given
 pub mod Held
+pub mod Steadily
