@@ -10,6 +10,7 @@ use Rattle.command_runner.specs.Answer.{Answer}
 use Rattle.command_runner.specs.NamedInputs.{NamedInput, Held, held_by, held_of, TakesInOrder}
 use Rattle.run_laws.specs.GoesBy.{GoesBy, GoesByFirst}
 use Rattle.run_laws.specs.History.{AreTrueOf}
+use Rattle.run_laws.proofs.Fitting
 use Rattle.run_laws.proofs.Cuts.{not_empty}
 use Rattle.run_laws.proofs.Held.{AreTrueOf-append, GaveFront, gave_front}
 

@@ -1,4 +1,6 @@
 pub mod Cuts
+pub mod Fitting
 pub mod Given
 pub mod Held
+pub mod Rooms
 pub mod Steadily

@@ -1,0 +1,93 @@
+-- What calls leave of the rooms of a steady host: each output has as many bytes less as were written to it.
+use Rattle.std.proofs.Common.{◌≡◌, ◌≢◌, ◌⊎◌, inl, inr, ℕ, ◌+◌, ◌-◌, ◌≤◌, ◌<◌, Bool, true, false, List, [], ◌∷◌, ◌++◌, length, refl, sym, ap, ◌∙◌, subst, arith, if◌then◌else◌, length-append, length-set, get_or, get_or-set_other}
+use Rattle.std.specs.Prelude.{◌==◌, slice_index}
+use Rattle.std.specs.List.{AllByRecursion}
+use Rattle.snd_host.specs.Calls.{Call, opened, not_opened, read, not_read, created, not_created, wrote, not_written, finished, not_finished}
+use Rattle.snd_host.specs.Host.{rooms_less}
+use Rattle.snd_host.specs.Follows.{failure_of, pushed}
+use Rattle.snd_host.proofs.Writes.{index-rooms_less}
+use Rattle.command_runner.specs.OutputCalls.{bytes_to}
+use Rattle.command_runner.proofs.Places.{index-rooms_less_other}
+use Rattle.run_laws.specs.History.{rooms_after, rooms_over}
+
+pub rooms_over-append : (xs ys : List Call) (rooms : List ℕ) → rooms_over (xs ++ ys) rooms ≡ rooms_over ys (rooms_over xs rooms)
+rooms_over-append [] ys rooms = refl
+rooms_over-append (x ∷ xs) ys rooms = rooms_over-append xs ys (rooms_after x rooms)
+
+-- as many outputs have a room
+pub length-rooms_over : (calls : List Call) (rooms : List ℕ) → length (rooms_over calls rooms) ≡ length rooms
+length-rooms_over [] rooms = refl
+length-rooms_over (c ∷ calls) rooms = length-rooms_over calls (rooms_after c rooms) ∙ after c
+  where
+    after : (c : Call) → length (rooms_after c rooms) ≡ length rooms
+    after (wrote f bytes) = length-set rooms f _
+    after (opened name n) = refl
+    after (not_opened name) = refl
+    after (read n room bytes) = refl
+    after (not_read n room) = refl
+    after (created name n) = refl
+    after (not_created name) = refl
+    after (not_written n piece) = refl
+    after (finished n) = refl
+    after (not_finished n) = refl
+
+-- the room of an output after a write to this one or to another
+less : (rooms : List ℕ) (f file : ℕ) (bytes more : List ℕ) (b : Bool) → (f == file) ≡ b →
+    slice_index (rooms_less rooms f (length bytes)) file - length more ≡ slice_index rooms file - length (if b then bytes ++ more else more)
+less rooms f file bytes more true is =
+    let same : f ≡ file = grind arith in
+    subst (λ (k : ℕ). slice_index (rooms_less rooms k (length bytes)) file - length more ≡ slice_index rooms file - length (bytes ++ more)) (sym same)
+    (omega (arith, index-rooms_less rooms file (length bytes), length-append bytes more))
+less rooms f file bytes more false is =
+    let other : file ≢ f = λ (same : file ≡ f). absurd (grind arith) in
+    ap (λ (k : ℕ). k - length more) (index-rooms_less_other rooms f file (length bytes) other)
+
+pub index-rooms_over : (calls : List Call) (rooms : List ℕ) (file : ℕ) → slice_index (rooms_over calls rooms) file ≡ slice_index rooms file - length (bytes_to file calls)
+index-rooms_over [] rooms file = omega arith
+index-rooms_over (wrote f bytes ∷ calls) rooms file = index-rooms_over calls (rooms_less rooms f (length bytes)) file ∙ less rooms f file bytes (bytes_to file calls) (f == file) refl
+index-rooms_over (opened name n ∷ calls) rooms file = index-rooms_over calls rooms file
+index-rooms_over (not_opened name ∷ calls) rooms file = index-rooms_over calls rooms file
+index-rooms_over (read n room bytes ∷ calls) rooms file = index-rooms_over calls rooms file
+index-rooms_over (not_read n room ∷ calls) rooms file = index-rooms_over calls rooms file
+index-rooms_over (created name n ∷ calls) rooms file = index-rooms_over calls rooms file
+index-rooms_over (not_created name ∷ calls) rooms file = index-rooms_over calls rooms file
+index-rooms_over (not_written n piece ∷ calls) rooms file = index-rooms_over calls rooms file
+index-rooms_over (finished n ∷ calls) rooms file = index-rooms_over calls rooms file
+index-rooms_over (not_finished n ∷ calls) rooms file = index-rooms_over calls rooms file
+
+-- where nothing was written to an output, it has the same room
+pub index-rooms_over_unwritten : (calls : List Call) (rooms : List ℕ) (file : ℕ) → bytes_to file calls ≡ [] → slice_index (rooms_over calls rooms) file ≡ slice_index rooms file
+index-rooms_over_unwritten calls rooms file none = let e = ap (length {A = ℕ}) none in omega (arith, index-rooms_over calls rooms file, e)
+
+-- A call leaves all rooms.
+abbrev pub KeepsRooms : Call → Type 0
+KeepsRooms call = (rooms : List ℕ) → rooms_after call rooms ≡ rooms
+
+pub rooms_over-kept : (calls : List Call) (rooms : List ℕ) → AllByRecursion KeepsRooms calls → rooms_over calls rooms ≡ rooms
+rooms_over-kept [] rooms each = refl
+rooms_over-kept (c ∷ calls) rooms each = rooms_over-kept calls (rooms_after c rooms) each.1 ∙ each.0 rooms
+
+-- A call that failed leaves all rooms, and wrote nothing.
+pub failure_keeps : (c : Call) → KeepsRooms (failure_of c)
+failure_keeps (opened name n) = λ rooms. refl
+failure_keeps (not_opened name) = λ rooms. refl
+failure_keeps (read n room bytes) = λ rooms. refl
+failure_keeps (not_read n room) = λ rooms. refl
+failure_keeps (created name n) = λ rooms. refl
+failure_keeps (not_created name) = λ rooms. refl
+failure_keeps (wrote n bytes) = λ rooms. refl
+failure_keeps (not_written n piece) = λ rooms. refl
+failure_keeps (finished n) = λ rooms. refl
+failure_keeps (not_finished n) = λ rooms. refl
+
+pub bytes_to-failure : (file : ℕ) (c : Call) → bytes_to file (failure_of c ∷ []) ≡ []
+bytes_to-failure file (opened name n) = refl
+bytes_to-failure file (not_opened name) = refl
+bytes_to-failure file (read n room bytes) = refl
+bytes_to-failure file (not_read n room) = refl
+bytes_to-failure file (created name n) = refl
+bytes_to-failure file (not_created name) = refl
+bytes_to-failure file (wrote n bytes) = refl
+bytes_to-failure file (not_written n piece) = refl
+bytes_to-failure file (finished n) = refl
+bytes_to-failure file (not_finished n) = refl
