@@ -1,20 +1,19 @@
 -- Where there is room for all that calls are to do, a steady host fails none of them: each creation has a room and each write is no longer than the
 -- room that is left, since the writes to an output join to bytes that it has room for. So calls that were cut weren't made by such a host.
-use Rattle.std.proofs.Common.{◌≡◌, ◌≢◌, ◌⊎◌, inl, inr, ℕ, zero, suc, ◌+◌, ◌-◌, ◌≤◌, ◌<◌, Bool, true, false, List, [], ◌∷◌, ◌++◌, length, None, refl, sym, ap, ◌∙◌, subst, arith, if◌then◌else◌, length-append, length-set}
+use Rattle.std.proofs.Common.{◌≡◌, ◌≢◌, inl, inr, ℕ, ◌+◌, ◌-◌, ◌≤◌, ◌<◌, Bool, true, false, List, [], ◌∷◌, ◌++◌, length, None, refl, sym, ap, ◌∙◌, subst, arith, if◌then◌else◌, length-append, length-set}
 use Rattle.std.specs.Prelude.{◌==◌, ◌||◌, slice_index, Option}
 use Rattle.std.specs.List.{AllByRecursion, list_any}
 use Rattle.std.proofs.lemmas.Bool.{or_from}
 use Rattle.snd_host.specs.Calls.{Call, opened, not_opened, read, not_read, created, not_created, wrote, not_written, finished, not_finished}
 use Rattle.snd_host.specs.Host.{Files, Output, longest_output_name, rooms_less}
-use Rattle.snd_host.specs.Follows.{pushed, failure_of, IsCut, IsWrite, AreWrites}
+use Rattle.snd_host.specs.Follows.{failure_of, IsCut, IsWrite, AreWrites}
 use Rattle.command_runner.specs.Delivery.{HaveRooms}
-use Rattle.command_runner.specs.InOrder.{Then}
 use Rattle.command_runner.specs.OutputCalls.{Target, numbered, IsWriteTo, bytes_to, AreWoven, creations, endings, MakesAtOnce, MakesInTurn, MakesAs, Order, at_once, in_turn, DeliversAs}
 use Rattle.command_runner.proofs.Woven.{write_is, each_as, bytes_more, none_to, woven_first}
 use Rattle.snd_host.proofs.Writes.{index-rooms_less}
 use Rattle.command_runner.proofs.Places.{index-rooms_less_other}
 use Rattle.run_laws.specs.History.{ended_of, rooms_after, rooms_over, IsSteadyCall, AreSteadyCalls}
-use Rattle.run_laws.proofs.Rooms.{rooms_over-append, length-rooms_over, index-rooms_over, index-rooms_over_unwritten}
+use Rattle.run_laws.proofs.Rooms.{length-rooms_over, index-rooms_over_unwritten}
 
 -- the number of the next output after a call
 abbrev number_after : Call → ℕ → ℕ
@@ -150,7 +149,7 @@ same_number n = grind (arith)
 first_fits : (f : ℕ) (bytes : List ℕ) (calls : List Call) (rooms : List ℕ) → HaveRoom (wrote f bytes ∷ calls) rooms → length bytes ≤ slice_index rooms f
 first_fits f bytes calls rooms have =
     let all : length (bytes ++ bytes_to f calls) ≤ slice_index rooms f =
-        subst (λ (b : Bool). length (if b then bytes ++ bytes_to f calls else bytes_to f calls) ≤ slice_index rooms f) (same_number f) (have f) in
+    subst (λ (b : Bool). length (if b then bytes ++ bytes_to f calls else bytes_to f calls) ≤ slice_index rooms f) (same_number f) (have f) in
     omega (arith, all, length-append bytes (bytes_to f calls))
 
 after_first : (f : ℕ) (bytes : List ℕ) (calls : List Call) (rooms : List ℕ) → HaveRoom (wrote f bytes ∷ calls) rooms → HaveRoom calls (rooms_less rooms f (length bytes))
@@ -160,13 +159,13 @@ after_first f bytes calls rooms have file = by_number (f == file) refl
     by_number true is =
         let same : f ≡ file = grind arith in
         let all : length (bytes ++ bytes_to file calls) ≤ slice_index rooms file =
-            subst (λ (b : Bool). length (if b then bytes ++ bytes_to file calls else bytes_to file calls) ≤ slice_index rooms file) is (have file) in
+        subst (λ (b : Bool). length (if b then bytes ++ bytes_to file calls else bytes_to file calls) ≤ slice_index rooms file) is (have file) in
         subst (λ (k : ℕ). length (bytes_to file calls) ≤ slice_index (rooms_less rooms k (length bytes)) file) (sym same)
         (omega (arith, all, length-append bytes (bytes_to file calls), index-rooms_less rooms file (length bytes)))
     by_number false is =
         let other : file ≢ f = λ (same : file ≡ f). absurd (grind arith) in
         let all : length (bytes_to file calls) ≤ slice_index rooms file =
-            subst (λ (b : Bool). length (if b then bytes ++ bytes_to file calls else bytes_to file calls) ≤ slice_index rooms file) is (have file) in
+        subst (λ (b : Bool). length (if b then bytes ++ bytes_to file calls else bytes_to file calls) ≤ slice_index rooms file) is (have file) in
         omega (arith, all, index-rooms_less_other rooms f file (length bytes) other)
 
 writes_fit : (n : ℕ) (rooms : List ℕ) (calls : List Call) → AllByRecursion IsAWrite calls → HaveRoom calls rooms → AllFit n rooms calls
@@ -232,7 +231,7 @@ targets_fit : (calls : List Call) (rooms : List ℕ) (file n : ℕ) (outputs : L
 targets_fit calls rooms file n [] have joined among = absurd (cc)
 targets_fit calls rooms file n (o ∷ outputs) have joined among =
     target_fits calls rooms file n o.bytes (list_any (λ target. target.0 == file) (numbered (n + 1) outputs)) (n == file) refl joined.0 have.1
-        (targets_fit calls rooms file (n + 1) outputs have.3 joined.1) among
+    (targets_fit calls rooms file (n + 1) outputs have.3 joined.1) among
 
 woven_have_room : (n : ℕ) (rooms : List ℕ) (outputs : List Output) (calls : List Call) → HaveRooms outputs rooms n → AreWoven (numbered n outputs) calls → HaveRoom calls rooms
 woven_have_room n rooms outputs calls have woven file = by_target (list_any (λ target. target.0 == file) (numbered n outputs)) refl
@@ -267,8 +266,8 @@ at_once_fit n rooms outputs calls have t =
     let ends = endings_fit (number_over rest.front m) (rooms_over rest.front rooms) (numbered n outputs) in
     let later : AllFit m rooms (rest.front ++ endings (numbered n outputs)) = fit_then m rooms rest.front (endings (numbered n outputs)) writes ends in
     let all : AllFit n rooms (creations n outputs ++ (rest.front ++ endings (numbered n outputs))) =
-        fit_then n rooms (creations n outputs) (rest.front ++ endings (numbered n outputs)) (creations_fit n rooms outputs have)
-            (subst (λ (l : List ℕ). AllFit m l (rest.front ++ endings (numbered n outputs))) (sym (rooms_over-creations n rooms outputs)) later) in
+    fit_then n rooms (creations n outputs) (rest.front ++ endings (numbered n outputs)) (creations_fit n rooms outputs have)
+    (subst (λ (l : List ℕ). AllFit m l (rest.front ++ endings (numbered n outputs))) (sym (rooms_over-creations n rooms outputs)) later) in
     subst (AllFit n rooms) (sym (t.split ∙ ap (λ (l : List Call). l ++ t.back) t.does_first ∙ ap (λ (l : List Call). creations n outputs ++ l) (rest.split ∙ ap (λ (l : List Call). rest.front ++ l) rest.does_second))) all
 
 number_over-at_once : (n : ℕ) (outputs : List Output) (calls : List Call) → MakesAtOnce n outputs calls → number_over calls n ≡ n + length outputs
@@ -281,7 +280,7 @@ number_over-at_once n outputs calls t =
     ∙ number_over-writes rest.front m (each_as (IsWriteTo (numbered n outputs)) IsAWrite (a_write (numbered n outputs)) rest.front rest.does_first.each)
     ∙ number_over-creations n outputs
 
-none_after_none : (file : ℕ) (xs ys : List Call) → bytes_to file xs ≡ [] → bytes_to file ys ≡ [] → bytes_to file (xs ++ ys) ≡ []
+pub none_after_none : (file : ℕ) (xs ys : List Call) → bytes_to file xs ≡ [] → bytes_to file ys ≡ [] → bytes_to file (xs ++ ys) ≡ []
 none_after_none file xs ys first second = bytes_more file xs ys ∙ ap (λ (l : List ℕ). l ++ bytes_to file ys) first ∙ second
 
 at_once_unwritten : (file n : ℕ) (outputs : List Output) (calls : List Call) → list_any (λ target. target.0 == file) (numbered n outputs) ≡ false → MakesAtOnce n outputs calls → bytes_to file calls ≡ []
@@ -289,8 +288,8 @@ at_once_unwritten file n outputs calls other t =
     let rest = t.does_second in
     ap (bytes_to file) t.split
     ∙ none_after_none file t.front t.back (ap (bytes_to file) t.does_first ∙ bytes_to-creations file n outputs)
-        (ap (bytes_to file) rest.split ∙ none_after_none file rest.front rest.back (bytes_to-unwritten file (numbered n outputs) rest.front other rest.does_first.each)
-            (ap (bytes_to file) rest.does_second ∙ bytes_to-endings file (numbered n outputs)))
+    (ap (bytes_to file) rest.split ∙ none_after_none file rest.front rest.back (bytes_to-unwritten file (numbered n outputs) rest.front other rest.does_first.each)
+    (ap (bytes_to file) rest.does_second ∙ bytes_to-endings file (numbered n outputs)))
 
 HaveRooms-same : (n : ℕ) (rooms after : List ℕ) (outputs : List Output) → length after ≡ length rooms → ((file : ℕ) → n ≤ file → slice_index after file ≡ slice_index rooms file) → HaveRooms outputs rooms n → HaveRooms outputs after n
 HaveRooms-same n rooms after [] even same have = tt
@@ -303,11 +302,11 @@ in_turn_fit n rooms (o ∷ outputs) calls have t =
     let after = rooms_over t.front rooms in
     let next : number_over t.front n ≡ n + 1 = number_over-at_once n (o ∷ []) t.front t.does_first in
     let kept : HaveRooms outputs after (n + 1) =
-        HaveRooms-same (n + 1) rooms after outputs (length-rooms_over t.front rooms)
-            (λ file later. index-rooms_over_unwritten t.front rooms file (at_once_unwritten file n (o ∷ []) t.front (higher_number file n (o ∷ []) later) t.does_first)) have.3 in
+    HaveRooms-same (n + 1) rooms after outputs (length-rooms_over t.front rooms)
+    (λ file later. index-rooms_over_unwritten t.front rooms file (at_once_unwritten file n (o ∷ []) t.front (higher_number file n (o ∷ []) later) t.does_first)) have.3 in
     subst (AllFit n rooms) (sym t.split)
     (fit_then n rooms t.front t.back (at_once_fit n rooms (o ∷ []) t.front (have.0, have.1, have.2, tt) t.does_first)
-        (subst (λ (k : ℕ). AllFit k after t.back) (sym next) (in_turn_fit (n + 1) after outputs t.back kept t.does_second)))
+    (subst (λ (k : ℕ). AllFit k after t.back) (sym next) (in_turn_fit (n + 1) after outputs t.back kept t.does_second)))
 
 in_turn_unwritten : (file n : ℕ) (outputs : List Output) (calls : List Call) → file < n → MakesInTurn n outputs calls → bytes_to file calls ≡ []
 in_turn_unwritten file n [] calls low none = ap (bytes_to file) none
@@ -338,7 +337,7 @@ delivers_fit order n rooms outputs report calls some have fits d =
     let same : slice_index after 0 ≡ slice_index rooms 0 = index-rooms_over_unwritten d.front rooms 0 (makes_unwritten order 0 n outputs d.front some d.does_first) in
     subst (AllFit n rooms) (sym d.split)
     (fit_then n rooms d.front d.back (makes_fit order n rooms outputs d.front have d.does_first)
-        (one_output_fits (number_over d.front n) 0 report after d.back (omega (arith, fits, same)) d.does_second))
+    (one_output_fits (number_over d.front n) 0 report after d.back (omega (arith, fits, same)) d.does_second))
 
 -- Where there is room, none of these calls fails.
 

@@ -1,16 +1,14 @@
 -- What is answered by what the inputs gave is what is answered by what their names hold: each input gave the front of what its name holds, up to its
 -- limit and one byte, and the answer goes by no more of it.
-use Rattle.std.proofs.Common.{◌≡◌, ℕ, ◌+◌, Bool, true, false, List, [], ◌∷◌, ◌++◌, Some, take, refl, sym, ap, ◌∙◌, subst, if◌then◌else◌}
+use Rattle.std.proofs.Common.{◌≡◌, ℕ, Bool, true, false, List, [], ◌∷◌, ◌++◌, Some, refl, sym, ap, ◌∙◌, subst, if◌then◌else◌}
 use Rattle.std.specs.Prelude.{IsSome}
 use Rattle.snd_host.specs.Calls.{Call, opened}
 use Rattle.snd_host.specs.Host.{Files}
 use Rattle.snd_host.specs.Follows.{pushed, IsCut}
-use Rattle.snd_host.specs.Takes.{Takes}
 use Rattle.command_runner.specs.Answer.{Answer}
 use Rattle.command_runner.specs.NamedInputs.{NamedInput, Held, held_by, held_of, TakesInOrder}
 use Rattle.run_laws.specs.GoesBy.{GoesBy, GoesByFirst}
 use Rattle.run_laws.specs.History.{AreTrueOf}
-use Rattle.run_laws.proofs.Fitting
 use Rattle.run_laws.proofs.Cuts.{not_empty}
 use Rattle.run_laws.proofs.Held.{AreTrueOf-append, GaveFront, gave_front}
 
@@ -37,8 +35,8 @@ answer-given files (input ∷ inputs) answer [] taken history goes takes all = a
 answer-given {C = C} files (input ∷ inputs) answer (bytes ∷ given) taken history goes takes all =
     let parts = AreTrueOf-append files history takes.front takes.back (subst (AreTrueOf files history) takes.split all) in
     rest-given files inputs answer input bytes given takes.back history goes.0
-        (λ is more. answer-given files inputs (λ l. answer (Some bytes ∷ l)) given takes.back (pushed takes.front history) (goes.1 bytes is) more parts.1)
-        (input.accepts (Some bytes)) refl takes.does_second
+    (λ is more. answer-given files inputs (λ l. answer (Some bytes ∷ l)) given takes.back (pushed takes.front history) (goes.1 bytes is) more parts.1)
+    (input.accepts (Some bytes)) refl takes.does_second
     ∙ sym (answer-front files input answer bytes (held_by files inputs) goes.0 (gave_front files input.name input.limit bytes takes.front history takes.does_first parts.0))
 
 pub no_cut : (given : List (List ℕ)) (taken : List Call) → IsCut (TakesInOrder [] given) taken → ⊥

@@ -1,6 +1,6 @@
 -- What an input gave is the front of what its name holds: each read gives the next bytes of what is left, so the reads join to a front of it, and they
 -- end where nothing is left or where the limit is passed.
-use Rattle.std.proofs.Common.{◌≡◌, ◌⊎◌, inl, inr, ℕ, ◌+◌, ◌≤◌, ◌<◌, List, [], ◌∷◌, ◌++◌, Some, length, take, drop, rules, refl, sym, ap, ◌∙◌, subst, arith, length-append}
+use Rattle.std.proofs.Common.{◌≡◌, ◌⊎◌, inl, inr, ℕ, ◌+◌, ◌≤◌, ◌<◌, List, [], ◌∷◌, ◌++◌, Some, length, take, drop, rules, refl, sym, ap, ◌∙◌, subst, arith}
 use Rattle.std.specs.Prelude.{Option, unwrap_or, IsSome}
 use Rattle.std.specs.List.{AllByRecursion}
 use Rattle.std.proofs.lemmas.List.{append_assoc, append-nil, take_all, take-append-le}
@@ -54,9 +54,11 @@ gave_front files name limit bytes calls history takes all = record { content = u
   where
     parts : AreTrueOf files history (opened name takes.file ∷ takes.reads) × AreTrueOf files (pushed takes.reads (opened name takes.file ∷ history)) takes.end
     parts = AreTrueOf-append files history (opened name takes.file ∷ takes.reads) takes.end (subst (AreTrueOf files history) takes.split all)
+
     whole : unwrap_or (files name) [] ≡ bytes ++ left_of files (pushed takes.reads (opened name takes.file ∷ history))
     whole = left_of-reads files takes.file takes.reads (opened name takes.file ∷ history) takes.each parts.0.1
         ∙ ap (λ (l : List ℕ). l ++ left_of files (pushed takes.reads (opened name takes.file ∷ history))) takes.joined
+
     front : (length bytes ≤ limit) ⊎ (limit < length bytes) → bytes ≡ take (limit + 1) (unwrap_or (files name) [])
     front (inl short) =
         let last = takes.ends.whole short in

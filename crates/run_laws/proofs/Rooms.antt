@@ -1,10 +1,10 @@
 -- What calls leave of the rooms of a steady host: each output has as many bytes less as were written to it.
-use Rattle.std.proofs.Common.{◌≡◌, ◌≢◌, ◌⊎◌, inl, inr, ℕ, ◌+◌, ◌-◌, ◌≤◌, ◌<◌, Bool, true, false, List, [], ◌∷◌, ◌++◌, length, refl, sym, ap, ◌∙◌, subst, arith, if◌then◌else◌, length-append, length-set, get_or, get_or-set_other}
+use Rattle.std.proofs.Common.{◌≡◌, ◌≢◌, ℕ, ◌-◌, Bool, true, false, List, [], ◌∷◌, ◌++◌, length, refl, sym, ap, ◌∙◌, subst, arith, if◌then◌else◌, length-append, length-set}
 use Rattle.std.specs.Prelude.{◌==◌, slice_index}
 use Rattle.std.specs.List.{AllByRecursion}
 use Rattle.snd_host.specs.Calls.{Call, opened, not_opened, read, not_read, created, not_created, wrote, not_written, finished, not_finished}
 use Rattle.snd_host.specs.Host.{rooms_less}
-use Rattle.snd_host.specs.Follows.{failure_of, pushed}
+use Rattle.snd_host.specs.Follows.{failure_of}
 use Rattle.snd_host.proofs.Writes.{index-rooms_less}
 use Rattle.command_runner.specs.OutputCalls.{bytes_to}
 use Rattle.command_runner.proofs.Places.{index-rooms_less_other}

@@ -11,12 +11,12 @@ use Rattle.snd_host.specs.Takes.{Takes, GivesSome}
 use Rattle.snd_host.proofs.Taking.{either}
 use Rattle.command_runner.specs.InOrder.{Then}
 use Rattle.command_runner.specs.Answer.{Answer, refused}
-use Rattle.command_runner.specs.NamedInputs.{NamedInput, Held, held_by, held_of, TakesInOrder}
+use Rattle.command_runner.specs.NamedInputs.{NamedInput, Held, held_by, TakesInOrder}
 use Rattle.command_runner.specs.declared.refusals.Refusal.TheVariants.{ReadFault}
 use Rattle.command_runner.proofs.Woven.{each_as, each_then}
 use Rattle.run_laws.specs.GoesBy.{GoesBy, GoesByFirst}
 use Rattle.run_laws.specs.History.{AreTrueOf, AreSteadyCalls, IsSteadyCall, rooms_after, rooms_over}
-use Rattle.run_laws.proofs.Cuts.{IsInEither, in_either, not_empty, one_of}
+use Rattle.run_laws.proofs.Cuts.{IsInEither, in_either, one_of}
 use Rattle.run_laws.proofs.Held.{AreTrueOf-append, gave_front}
 use Rattle.run_laws.proofs.Given.{answer-front, no_cut}
 
@@ -25,7 +25,7 @@ pub AreSteadyCalls-append : (holds : Option Files) (rooms : List ℕ) (history x
 AreSteadyCalls-append holds rooms history [] ys all = (tt, all)
 AreSteadyCalls-append holds rooms history (x ∷ xs) ys all = let more = AreSteadyCalls-append holds (rooms_after x rooms) (x ∷ history) xs ys all.1 in ((all.0, more.0), more.1)
 
-abbrev IsRead : Call → Type 0
+abbrev pub IsRead : Call → Type 0
 IsRead (read file room bytes) = Unit {0}
 IsRead call = ⊥
 
@@ -55,7 +55,7 @@ no_read_fails holds rooms history (finished n) h steady = absurd h
 no_read_fails holds rooms history (not_finished n) h steady = absurd h
 
 -- after its opening an input is read
-after_opening : (name : List ℕ) (limit : ℕ) (bytes : List ℕ) (calls : List Call) (takes : Takes name limit bytes calls) → AllByRecursion IsRead (takes.reads ++ takes.end)
+pub after_opening : (name : List ℕ) (limit : ℕ) (bytes : List ℕ) (calls : List Call) (takes : Takes name limit bytes calls) → AllByRecursion IsRead (takes.reads ++ takes.end)
 after_opening name limit bytes calls takes = each_then IsRead takes.reads takes.end (each_as (GivesSome takes.file) IsRead (read_is takes.file) takes.reads takes.each) (last (either (length bytes) limit))
   where
     last : (length bytes ≤ limit) ⊎ (limit < length bytes) → AllByRecursion IsRead takes.end
@@ -96,7 +96,7 @@ module _ {C : Type 0} (files : Files) (rooms : List ℕ) (history : List Call) (
       IsInEither steadily.cut.done steadily.cut.call steadily.cut.rest whole.front whole.back → Refuses answer (held_by files (input ∷ inputs))
   by_place whole more (inl place) =
       let absent = not_there files input.name input.limit bytes rooms history steadily.cut.done steadily.cut.call place.0 whole.front whole.does_first place.1
-          (subst (AreSteadyCalls (Some files) rooms history) steadily.cut.cut steadily.steady) in
+      (subst (AreSteadyCalls (Some files) rooms history) steadily.cut.cut steadily.steady) in
       ap (λ held. answer (held ∷ held_by files inputs)) absent ∙ goes.absent (held_by files inputs)
   by_place whole more (inr place) =
       let last = failure_of steadily.cut.call ∷ [] in
@@ -106,12 +106,12 @@ module _ {C : Type 0} (files : Files) (rooms : List ℕ) (history : List Call) (
       let front = gave_front files input.name input.limit bytes whole.front history whole.does_first true_parts.0 in
       answer-front files input answer bytes (held_by files inputs) goes front
       ∙ cut_later files (rooms_over whole.front rooms) (pushed whole.front history) input inputs answer bytes given (place.0 ++ last)
-          (λ is. more is (place.0 ++ last)) (input.accepts (Some bytes)) refl
-          (record {
-            cut = record { done = place.0; call = steadily.cut.call; rest = steadily.cut.rest; cut = refl; whole = subst (TakesInOrder (if input.accepts (Some bytes) then inputs else []) given) place.2 whole.does_second };
-            true_of = true_parts.1;
-            steady = steady_parts.1;
-          })
+      (λ is. more is (place.0 ++ last)) (input.accepts (Some bytes)) refl
+      (record {
+        cut = record { done = place.0; call = steadily.cut.call; rest = steadily.cut.rest; cut = refl; whole = subst (TakesInOrder (if input.accepts (Some bytes) then inputs else []) given) place.2 whole.does_second };
+        true_of = true_parts.1;
+        steady = steady_parts.1;
+      })
 
 only_absent_fails : {C : Type 0} (files : Files) (inputs : List NamedInput) (answer : Held → Answer C) (given : List (List ℕ)) (rooms : List ℕ) (history taken : List Call) →
     GoesBy inputs answer → IsSteadyCut files rooms history inputs given taken → Refuses answer (held_by files inputs)
@@ -120,8 +120,8 @@ only_absent_fails files (input ∷ inputs) answer [] rooms history taken goes cu
 only_absent_fails files (input ∷ inputs) answer (bytes ∷ given) rooms history taken goes cut =
     let whole = cut.cut.whole in
     by_place files rooms history input inputs answer bytes given taken goes.0 cut whole
-        (λ is calls. only_absent_fails files inputs (λ rest. answer (Some bytes ∷ rest)) given (rooms_over whole.front rooms) (pushed whole.front history) calls (goes.1 bytes is))
-        (in_either cut.cut.done cut.cut.call cut.cut.rest whole.front whole.back whole.split)
+    (λ is calls. only_absent_fails files inputs (λ rest. answer (Some bytes ∷ rest)) given (rooms_over whole.front rooms) (pushed whole.front history) calls (goes.1 bytes is))
+    (in_either cut.cut.done cut.cut.call cut.cut.rest whole.front whole.back whole.split)
 
 pub answer-cut : {C : Type 0} (files : Files) (inputs : List NamedInput) (answer : Held → Answer C) (given : List (List ℕ)) (rooms : List ℕ) (taken history : List Call) →
     GoesBy inputs answer → IsCut (TakesInOrder inputs given) taken → AreTrueOf files history taken → AreSteadyCalls (Some files) rooms history taken → answer (held_by files inputs) ≡ refused ReadFault
