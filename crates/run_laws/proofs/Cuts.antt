@@ -1,6 +1,5 @@
 -- A run that was cut is the front of a whole one: where it was cut is in the first thing or in the second.
 use Rattle.std.proofs.Common.{◌≡◌, ◌⊎◌, inl, inr, List, [], ◌∷◌, ◌++◌, refl, sym, ap, ◌∙◌}
-use Rattle.std.specs.List.{AllByRecursion}
 
 -- Of lists that were put together the second time at this element: it is one of the first, or of the second.
 abbrev pub IsInFirst : {A : Type 0} → (done : List A) (x : A) (front : List A) → Type 0
@@ -28,11 +27,3 @@ in_either (d ∷ done) x rest (f ∷ front) back is =
 pub not_empty : {A : Type 0} (xs : List A) (y : A) (ys : List A) → xs ++ y ∷ ys ≡ [] → ⊥
 not_empty [] y ys none = absurd (cc)
 not_empty (x ∷ xs) y ys none = absurd (cc)
-
-pub all_first : {A : Type 0} (P : A → Type 0) (xs ys : List A) → AllByRecursion P (xs ++ ys) → AllByRecursion P xs
-all_first P [] ys each = tt
-all_first P (x ∷ xs) ys each = (each.0, all_first P xs ys each.1)
-
-pub one_of : {A : Type 0} (P : A → Type 0) (xs ys : List A) (y : A) → AllByRecursion P (xs ++ y ∷ ys) → P y
-one_of P [] ys y each = each.0
-one_of P (x ∷ xs) ys y each = one_of P xs ys y each.1

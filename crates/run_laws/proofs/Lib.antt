@@ -1,7 +1,12 @@
 pub mod Cuts
+pub mod Delivering
+pub mod DeliveryEnds
+pub mod EachCall
 pub mod Fitting
 pub mod Given
+pub mod GoesByInputs
 pub mod Held
 pub mod Rooms
 pub mod RoomsKept
 pub mod Steadily
+pub mod Unwritten

@@ -1,10 +1,8 @@
 -- What calls leave of the rooms of a steady host: each output has as many bytes less as were written to it.
 use Rattle.std.proofs.Common.{◌≡◌, ◌≢◌, ℕ, ◌-◌, Bool, true, false, List, [], ◌∷◌, ◌++◌, length, refl, sym, ap, ◌∙◌, subst, arith, if◌then◌else◌, length-append, length-set}
 use Rattle.std.specs.Prelude.{◌==◌, slice_index}
-use Rattle.std.specs.List.{AllByRecursion}
 use Rattle.snd_host.specs.Calls.{Call, opened, not_opened, read, not_read, created, not_created, wrote, not_written, finished, not_finished}
 use Rattle.snd_host.specs.Host.{rooms_less}
-use Rattle.snd_host.specs.Follows.{failure_of}
 use Rattle.snd_host.proofs.Writes.{index-rooms_less}
 use Rattle.command_runner.specs.OutputCalls.{bytes_to}
 use Rattle.command_runner.proofs.Places.{index-rooms_less_other}
@@ -58,36 +56,3 @@ index-rooms_over (not_finished n ∷ calls) rooms file = index-rooms_over calls 
 -- where nothing was written to an output, it has the same room
 pub index-rooms_over_unwritten : (calls : List Call) (rooms : List ℕ) (file : ℕ) → bytes_to file calls ≡ [] → slice_index (rooms_over calls rooms) file ≡ slice_index rooms file
 index-rooms_over_unwritten calls rooms file none = let e = ap (length {A = ℕ}) none in omega (arith, index-rooms_over calls rooms file, e)
-
--- A call leaves all rooms.
-abbrev pub KeepsRooms : Call → Type 0
-KeepsRooms call = (rooms : List ℕ) → rooms_after call rooms ≡ rooms
-
-pub rooms_over-kept : (calls : List Call) (rooms : List ℕ) → AllByRecursion KeepsRooms calls → rooms_over calls rooms ≡ rooms
-rooms_over-kept [] rooms each = refl
-rooms_over-kept (c ∷ calls) rooms each = rooms_over-kept calls (rooms_after c rooms) each.1 ∙ each.0 rooms
-
--- A call that failed leaves all rooms, and wrote nothing.
-pub failure_keeps : (c : Call) → KeepsRooms (failure_of c)
-failure_keeps (opened name n) = λ rooms. refl
-failure_keeps (not_opened name) = λ rooms. refl
-failure_keeps (read n room bytes) = λ rooms. refl
-failure_keeps (not_read n room) = λ rooms. refl
-failure_keeps (created name n) = λ rooms. refl
-failure_keeps (not_created name) = λ rooms. refl
-failure_keeps (wrote n bytes) = λ rooms. refl
-failure_keeps (not_written n piece) = λ rooms. refl
-failure_keeps (finished n) = λ rooms. refl
-failure_keeps (not_finished n) = λ rooms. refl
-
-pub bytes_to-failure : (file : ℕ) (c : Call) → bytes_to file (failure_of c ∷ []) ≡ []
-bytes_to-failure file (opened name n) = refl
-bytes_to-failure file (not_opened name) = refl
-bytes_to-failure file (read n room bytes) = refl
-bytes_to-failure file (not_read n room) = refl
-bytes_to-failure file (created name n) = refl
-bytes_to-failure file (not_created name) = refl
-bytes_to-failure file (wrote n bytes) = refl
-bytes_to-failure file (not_written n piece) = refl
-bytes_to-failure file (finished n) = refl
-bytes_to-failure file (not_finished n) = refl

@@ -16,7 +16,8 @@ use Rattle.command_runner.specs.declared.refusals.Refusal.TheVariants.{ReadFault
 use Rattle.command_runner.proofs.Woven.{each_as, each_then}
 use Rattle.run_laws.specs.GoesBy.{GoesBy, GoesByFirst}
 use Rattle.run_laws.specs.History.{AreTrueOf, AreSteadyCalls, IsSteadyCall, rooms_after, rooms_over}
-use Rattle.run_laws.proofs.Cuts.{IsInEither, in_either, one_of}
+use Rattle.run_laws.proofs.Cuts.{IsInEither, in_either}
+use Rattle.run_laws.proofs.EachCall.{one_of}
 use Rattle.run_laws.proofs.Held.{AreTrueOf-append, gave_front}
 use Rattle.run_laws.proofs.Given.{answer-front, no_cut}
 
@@ -25,7 +26,7 @@ pub AreSteadyCalls-append : (holds : Option Files) (rooms : List ℕ) (history x
 AreSteadyCalls-append holds rooms history [] ys all = (tt, all)
 AreSteadyCalls-append holds rooms history (x ∷ xs) ys all = let more = AreSteadyCalls-append holds (rooms_after x rooms) (x ∷ history) xs ys all.1 in ((all.0, more.0), more.1)
 
-abbrev pub IsRead : Call → Type 0
+abbrev IsRead : Call → Type 0
 IsRead (read file room bytes) = Unit {0}
 IsRead call = ⊥
 
@@ -55,7 +56,7 @@ no_read_fails holds rooms history (finished n) h steady = absurd h
 no_read_fails holds rooms history (not_finished n) h steady = absurd h
 
 -- after its opening an input is read
-pub after_opening : (name : List ℕ) (limit : ℕ) (bytes : List ℕ) (calls : List Call) (takes : Takes name limit bytes calls) → AllByRecursion IsRead (takes.reads ++ takes.end)
+after_opening : (name : List ℕ) (limit : ℕ) (bytes : List ℕ) (calls : List Call) (takes : Takes name limit bytes calls) → AllByRecursion IsRead (takes.reads ++ takes.end)
 after_opening name limit bytes calls takes = each_then IsRead takes.reads takes.end (each_as (GivesSome takes.file) IsRead (read_is takes.file) takes.reads takes.each) (last (either (length bytes) limit))
   where
     last : (length bytes ≤ limit) ⊎ (limit < length bytes) → AllByRecursion IsRead takes.end

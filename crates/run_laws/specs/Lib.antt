@@ -2,3 +2,5 @@
 pub mod GoesBy
 -- what the calls of a host come to
 pub mod History
+-- scratch
+pub mod Scratch
