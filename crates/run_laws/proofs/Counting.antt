@@ -13,7 +13,8 @@ use Rattle.command_runner.specs.NamedInputs.{NamedInput, TakesInOrder}
 use Rattle.command_runner.specs.OutputCalls.{Order}
 use Rattle.command_runner.specs.RunCalls.{DeliversAnswer}
 use Rattle.command_runner.proofs.Woven.{write_is, other_number}
-use Rattle.run_laws.specs.History.{given_of, ended_of, in_faults, note_faults, out_faults}
+use Rattle.snd_host.specs.History.{given_of, ended_of, in_faults, note_faults, out_faults}
+use Rattle.command_runner.proofs.Kept.{Keeps, kept, cut_is, kept_cut, kept_begun}
 use Rattle.command_runner.proofs.EachCall.{Each, all_first, one_of, each_for_inputs, each_for_outputs, each_written}
 
 pub record Counts : Type 0 where
@@ -33,18 +34,6 @@ pub record Standing : Type 0 where
 
 abbrev pub standing : List Call → Standing
 standing calls = record { report = (given_of calls).report; created = (given_of calls).created; ended = ended_of calls }
-
--- A call leaves this as it was.
-abbrev pub Keeps : {A : Type 0} → (List Call → A) → Call → Type 0
-Keeps f call = (history : List Call) → f (call ∷ history) ≡ f history
-
-pub kept : {A : Type 0} (f : List Call → A) (calls history : List Call) → AllByRecursion (Keeps f) calls → f (pushed calls history) ≡ f history
-kept f [] history each = refl
-kept f (call ∷ calls) history each = kept f calls (call ∷ history) each.1 ∙ each.0 history
-
--- the failed call comes after those before it
-pub cut_is : {A : Type 0} (f : List Call → A) (Does : List Call → Type 0) (calls history : List Call) (cut : IsCut Does calls) → f (pushed calls history) ≡ f (failure_of cut.call ∷ pushed cut.done history)
-cut_is f Does calls history cut = ap (λ (l : List Call). f (pushed l history)) cut.cut ∙ ap f (pushed_more cut.done (failure_of cut.call ∷ []) history)
 
 -- Calls for inputs.
 
@@ -76,18 +65,14 @@ module _ (inputs : List NamedInput) (given : List (List ℕ)) where
       ∙ ap input_failed (kept counts_of cut.done history (all_first (Keeps counts_of) cut.done (cut.call ∷ cut.rest) (keep_counts _ cut.whole)))
 
   pub taken_cut_left : (taken history : List Call) → IsCut (TakesInOrder inputs given) taken → standing (pushed taken history) ≡ standing history
-  taken_cut_left taken history cut =
-      let fails = each_for_inputs (λ call. Keeps standing (failure_of call)) (λ name file history. refl) (λ file room bytes history. refl) inputs given _ cut.whole in
-      cut_is standing (TakesInOrder inputs given) taken history cut
-      ∙ one_of (λ call. Keeps standing (failure_of call)) cut.done cut.rest cut.call fails (pushed cut.done history)
-      ∙ kept standing cut.done history (all_first (Keeps standing) cut.done (cut.call ∷ cut.rest) (keep_outputs _ cut.whole))
+  taken_cut_left = kept_cut standing (TakesInOrder inputs given) keep_outputs (each_for_inputs (λ call. Keeps standing (failure_of call)) (λ name file history. refl) (λ file room bytes history. refl) inputs given)
 
   -- where memory was wanting
   pub taken_begun_counts : (taken history : List Call) → IsBegun (TakesInOrder inputs given) taken → counts_of (pushed taken history) ≡ counts_of history
-  taken_begun_counts taken history begun = kept counts_of taken history (all_first (Keeps counts_of) taken begun.rest (keep_counts _ begun.whole))
+  taken_begun_counts = kept_begun counts_of (TakesInOrder inputs given) keep_counts
 
   pub taken_begun_left : (taken history : List Call) → IsBegun (TakesInOrder inputs given) taken → standing (pushed taken history) ≡ standing history
-  taken_begun_left taken history begun = kept standing taken history (all_first (Keeps standing) taken begun.rest (keep_outputs _ begun.whole))
+  taken_begun_left = kept_begun standing (TakesInOrder inputs given) keep_outputs
 
 -- Calls for outputs and the report.
 
@@ -98,7 +83,7 @@ abbrev OutputFails : Call → Type 0
 OutputFails call = (history : List Call) → counts_of (failure_of call ∷ history) ≡ output_failed (counts_of history)
 
 -- Only the complaint has the number 1.
-no_complaint : (n file : ℕ) → 2 ≤ n → (file ≡ 0) ⊎ (n ≤ file) → file ≢ 1
+pub no_complaint : (n file : ℕ) → 2 ≤ n → (file ≡ 0) ⊎ (n ≤ file) → file ≢ 1
 no_complaint n file high (inl report) is = absurd (omega arith)
 no_complaint n file high (inr output) is = absurd (omega arith)
 
@@ -162,12 +147,7 @@ module _ (line : List ℕ) where
       ∙ ap note_failed (notes_count cut.done history (all_first (IsWrite 1) cut.done (cut.call ∷ cut.rest) cut.whole.each))
 
   pub note_cut_left : (note history : List Call) → IsCut (AreWrites 1 line) note → standing (pushed note history) ≡ standing history
-  note_cut_left note history cut =
-      let each = each_written 1 line (Keeps standing) (λ piece some history. refl) _ cut.whole in
-      let fails = each_written 1 line (λ call. Keeps standing (failure_of call)) (λ piece some history. refl) _ cut.whole in
-      cut_is standing (AreWrites 1 line) note history cut
-      ∙ one_of (λ call. Keeps standing (failure_of call)) cut.done cut.rest cut.call fails (pushed cut.done history)
-      ∙ kept standing cut.done history (all_first (Keeps standing) cut.done (cut.call ∷ cut.rest) each)
+  note_cut_left = kept_cut standing (AreWrites 1 line) (each_written 1 line (Keeps standing) (λ piece some history. refl)) (each_written 1 line (λ call. Keeps standing (failure_of call)) (λ piece some history. refl))
 
 -- Writes that were cut wrote a prefix,
 pub cut_prefix : (file : ℕ) (bytes : List ℕ) (calls : List Call) (cut : IsCut (AreWrites file bytes) calls) → IsPrefix (bytes_written cut.done) bytes

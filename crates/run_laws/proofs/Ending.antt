@@ -15,7 +15,7 @@ use Rattle.command_runner.specs.OutputCalls.{Order}
 use Rattle.command_runner.specs.RunCalls.{DeliversAnswer, EndsBy}
 use Rattle.command_runner.specs.declared.refusals.Refusal.{Refusal}
 use Rattle.command_runner.specs.declared.refusals.Refusal.TheVariants.{Usage, ReadFault, WriteFault, OutOfMemory, Input}
-use Rattle.run_laws.specs.History.{ended_of}
+use Rattle.snd_host.specs.History.{ended_of}
 use Rattle.exit_status.proofs.Ends.{IsEnd}
 use Rattle.run_laws.proofs.Counting.{Counts, counts_of, Standing, standing, input_failed, output_failed, taken_counts, taken_left, taken_cut_counts, taken_cut_left, taken_begun_counts, taken_begun_left, made_counts, made_cut_counts, made_cut_left}
 use Rattle.run_laws.proofs.Making.{grown, grown_none}

@@ -11,7 +11,7 @@ use Rattle.snd_host.specs.Host.{Output, outputs_with}
 use Rattle.snd_host.specs.Follows.{pushed}
 use Rattle.command_runner.specs.OutputCalls.{IsWriteTo, numbered, creations, endings, bytes_to}
 use Rattle.command_runner.proofs.Woven.{bytes_more, same_number, other_number}
-use Rattle.run_laws.specs.History.{given_of, ended_of}
+use Rattle.snd_host.specs.History.{given_of, ended_of}
 use Rattle.run_laws.proofs.Counting.{Standing, standing}
 use Rattle.command_runner.proofs.EachCall.{from_first}
 

@@ -1,6 +1,7 @@
 -- A run by its command is a run by what the command answers.
 use Rattle.std.proofs.Common.{◌≡◌, ◌≢◌, length, Option, Some, sym, ap, ◌∙◌}
 use Rattle.std.specs.Prelude.{◌↔◌}
+use Rattle.snd_host.specs.History.{ended_of}
 use Rattle.snd_host.specs.Host.{HostState}
 use Rattle.command_runner.specs.declared.refusals.Refusal.{Refusal}
 use Rattle.command_runner.specs.declared.refusals.Refusal.TheVariants.{Usage, OutOfMemory}
@@ -10,12 +11,12 @@ use Rattle.exit_status.specs.declared.status.Status.TheVariants as statuses
 use Rattle.exit_status.specs.Statuses.{status_of, end_without_numbers}
 use Rattle.command_line.specs.Command.{Command, usage}
 use Rattle.run_laws.specs.Answers.{answer_by, inputs_of, order_of}
-use Rattle.run_laws.specs.MakesCalls.{MakesCalls}
+use Rattle.run_laws.specs.Run.{IsRun}
 use Rattle.exit_status.proofs.Ends.{plain_is}
 use Rattle.run_laws.proofs.Runs.{RunBy}
 
-module _ (command : Command) (old new : HostState) (status : Status) (run : MakesCalls command old new status) where
-  abbrev pub of_run : RunBy (order_of command) (answer_by command) (inputs_of command) (length old.ended) status old.calls new.calls
+module _ (command : Command) (old new : HostState) (status : Status) (run : IsRun command old new status) where
+  abbrev pub of_run : RunBy (order_of command) (answer_by command) (inputs_of command) (length (ended_of old.calls)) status old.calls new.calls
   of_run = record {
     refusal = run.refusal;
     status_is = run.status_is;
@@ -23,7 +24,7 @@ module _ (command : Command) (old new : HostState) (status : Status) (run : Make
     taken = run.taken;
     made = run.made;
     note = run.note;
-    since = run.since;
+    since = run.since.calls;
     ends = run.ends;
     complaint = run.complaint;
   }

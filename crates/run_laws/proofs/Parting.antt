@@ -15,7 +15,7 @@ use Rattle.command_runner.specs.OutputCalls.{IsWriteTo, AreWoven, AreCreations, 
 use Rattle.command_runner.proofs.Woven.{write_is}
 use Rattle.command_runner.proofs.Woven as woven
 use Rattle.command_runner.proofs.Fronts.{BeginsThen, begins_first, begins_second, begins_then}
-use Rattle.run_laws.specs.History.{given_of, ended_of}
+use Rattle.snd_host.specs.History.{given_of, ended_of}
 use Rattle.run_laws.proofs.Counting.{Standing, standing}
 use Rattle.command_runner.proofs.EachCall.{all_first}
 use Rattle.run_laws.proofs.Making.{grown, grown_none, grown_twice, flag_each, begun_by, none_ended, written, ended_by, after_creations, after_writes, after_endings}

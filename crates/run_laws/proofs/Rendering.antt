@@ -19,7 +19,7 @@ use Rattle.command_render.specs.Render.{length_with, muted_voices, traced_voices
 use Rattle.command_line.specs.Command.{render}
 use Rattle.run_laws.specs.Answers.{answer_by}
 use Rattle.run_laws.specs.Rendered.{WritesFrames}
-use Rattle.run_laws.specs.MakesCalls.{MakesCalls}
+use Rattle.run_laws.specs.Run.{IsRun}
 use Rattle.exit_status.proofs.Ends.{plain_is}
 
 module _ (file table wave : List ℕ) (options : Options) (m : ℕ) (made taken : List Call) where
@@ -66,8 +66,8 @@ module _ (file table wave : List ℕ) (options : Options) (m : ℕ) (made taken 
   by_given [] takes d = absurd takes
   by_given (file_bytes ∷ given) takes d = by_file file_bytes given takes.back (file_in (Some file_bytes)) refl takes.does_second d
 
-pub writes_frames : (file table wave : List ℕ) (options : Options) (old new : HostState) (run : MakesCalls (render file table wave options) old new statuses.Ok) → WritesFrames options (length old.ended + 2) run.given run.made
+pub writes_frames : (file table wave : List ℕ) (options : Options) (old new : HostState) (run : IsRun (render file table wave options) old new statuses.Ok) → WritesFrames options (length (ended_of old.calls) + 2) run.given run.made
 writes_frames file table wave options old new run =
     let none : run.refusal ≡ None = plain_is run.refusal None (ap end_without_numbers (sym run.status_is)) in
-    let ends = subst (λ (r : Option (Refusal Cause)). EndsBy at_once (answer_by (render file table wave options)) (render_inputs file table) r (length old.ended + 2) run.given run.taken run.made) none run.ends in
-    by_given file table wave options (length old.ended) run.made run.taken run.given ends.0 ends.1
+    let ends = subst (λ (r : Option (Refusal Cause)). EndsBy at_once (answer_by (render file table wave options)) (render_inputs file table) r (length (ended_of old.calls) + 2) run.given run.taken run.made) none run.ends in
+    by_given file table wave options (length (ended_of old.calls)) run.made run.taken run.given ends.0 ends.1

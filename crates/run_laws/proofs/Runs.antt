@@ -19,7 +19,7 @@ use Rattle.exit_status.specs.declared.status.Status.{Status}
 use Rattle.exit_status.specs.declared.status.Status.TheVariants as statuses
 use Rattle.exit_status.specs.Statuses.{status_of, answer_status, end_without_numbers}
 use Rattle.exit_status.specs.Lines.{end_line, status_line}
-use Rattle.run_laws.specs.History.{given_of, ended_of, in_faults, note_faults, out_faults}
+use Rattle.snd_host.specs.History.{given_of, ended_of, in_faults, note_faults, out_faults}
 use Rattle.run_laws.specs.Left.{Leaves, LeavesNothing, LeavesAll, LeavesPart, ReportsLast, Complains, KeepsCounts, NoneRose}
 use Rattle.exit_status.proofs.Ends.{IsEnd, plain_is, line_end, same_end}
 use Rattle.run_laws.proofs.Counting.{Counts, counts_of, Standing, standing, note_counts, note_left, note_cut_counts, note_cut_left, cut_prefix, no_cut_of_none}

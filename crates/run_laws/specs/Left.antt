@@ -1,14 +1,10 @@
 -- What calls leave: over the list of calls before them and that after them, each with the newest call first.
 use Rattle.std.specs.Prelude.{◌≡◌, ◌≢◌, ◌⊎◌, ℕ, Bool, List, [], ◌++◌}
 use Rattle.snd_host.specs.Calls.{Call}
-use Rattle.snd_host.specs.Host.{HostState, Output, next_count, Rose, IsPrefix}
+use Rattle.snd_host.specs.Host.{Output, next_count, Rose, IsPrefix}
 use Rattle.command_runner.specs.Answer.{Answer, outputs_of, report_of}
 use Rattle.command_runner.specs.Delivery.{IsBegun, EndedAreWhole, AreEndedInOrder, all_ended}
-use Rattle.run_laws.specs.History.{given_of, ended_of, in_faults, note_faults, out_faults}
-
--- A host has a flag for each output that its calls created, and no others.
-abbrev pub HasItsFlags : HostState → Type 0
-HasItsFlags state = state.ended ≡ ended_of state.calls
+use Rattle.snd_host.specs.History.{given_of, ended_of, in_faults, note_faults, out_faults}
 
 -- The report grew by these bytes, and these outputs were created, each with a flag that it was ended.
 pub record Leaves (reported : List ℕ) (outputs : List Output) (flags : List Bool) (old new : List Call) : Type 0 where

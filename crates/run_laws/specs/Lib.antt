@@ -1,10 +1,10 @@
--- what the commands answer
+-- what the commands answer, and which inputs they read
 pub mod Answers
--- what the calls of a host come to
-pub mod History
+-- how what a command answers goes by its inputs
+pub mod GoesBy
 -- what calls leave
 pub mod Left
--- the calls that a run makes
-pub mod MakesCalls
 -- what a render wrote, by the bytes that its inputs gave
 pub mod Rendered
+-- the calls that a run makes
+pub mod Run
