@@ -1,6 +1,7 @@
 pub mod Attempting
 pub mod EachCall
 pub mod Flags
+pub mod Fronts
 pub mod Kept
 pub mod OutputBytes
 pub mod OutputsMade

@@ -16,10 +16,10 @@ abbrev pub Apart : ℕ → Option ℕ → Type 0
 Apart n None = Unit {0}
 Apart n (Some m) = n ≢ m
 
-same_number : (n : ℕ) → (n == n) ≡ true
+pub same_number : (n : ℕ) → (n == n) ≡ true
 same_number n = grind (arith)
 
-other_number : (n m : ℕ) → n ≢ m → (n == m) ≡ false
+pub other_number : (n m : ℕ) → n ≢ m → (n == m) ≡ false
 other_number n m other = grind (arith)
 
 -- What holds of each write to an output holds of such a call.

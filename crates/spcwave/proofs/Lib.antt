@@ -1,4 +1,2 @@
--- Clauses: the clauses of a run, from what its command did.
-pub mod Clauses
--- Rendering: what a render wrote, by the calls that it made.
-pub mod Rendering
+-- Runs: a run is what its command did, and then its complaint.
+pub mod Runs

@@ -1,6 +1,7 @@
 -- What a render wrote, by the calls that it made.
 use Rattle.std.proofs.Common.{◌≡◌, ℕ, ℤ, ◌+◌, Bool, true, false, List, [], ◌∷◌, length, Option, Some, None, Result, Ok, Err, refl, sym, ap, subst, if◌then◌else◌}
 use Rattle.std.specs.Prelude.{is_ok}
+use Rattle.snd_host.specs.History.{ended_of}
 use Rattle.snd_host.specs.Calls.{Call}
 use Rattle.snd_host.specs.Host.{HostState}
 use Rattle.command_runner.specs.Answer.{Answer}
@@ -17,10 +18,10 @@ use Rattle.input_files.specs.Reading.{answer_from}
 use Rattle.command_render.specs.Options.{Options}
 use Rattle.command_render.specs.Render.{length_with, muted_voices, traced_voices, rendered_wave, rendered_trace, rendering_answer, file_answer, render_over, render_inputs}
 use Rattle.command_line.specs.Command.{render}
-use Rattle.spcwave.specs.Answers.{answer_by}
-use Rattle.spcwave.specs.Rendered.{WritesFrames}
-use Rattle.spcwave.specs.RunClauses.{MakesCalls}
-use Rattle.spcwave.proofs.Clauses.{plain_is}
+use Rattle.run_laws.specs.Answers.{answer_by}
+use Rattle.run_laws.specs.Rendered.{WritesFrames}
+use Rattle.run_laws.specs.Run.{IsRun}
+use Rattle.exit_status.proofs.Ends.{plain_is}
 
 module _ (file table wave : List ℕ) (options : Options) (m : ℕ) (made taken : List Call) where
   abbrev Delivered : Answer Cause → Type 0
@@ -66,8 +67,8 @@ module _ (file table wave : List ℕ) (options : Options) (m : ℕ) (made taken 
   by_given [] takes d = absurd takes
   by_given (file_bytes ∷ given) takes d = by_file file_bytes given takes.back (file_in (Some file_bytes)) refl takes.does_second d
 
-pub writes_frames : (file table wave : List ℕ) (options : Options) (old new : HostState) (run : MakesCalls (render file table wave options) old new statuses.Ok) → WritesFrames options (length old.ended + 2) run.given run.made
+pub writes_frames : (file table wave : List ℕ) (options : Options) (old new : HostState) (run : IsRun (render file table wave options) old new statuses.Ok) → WritesFrames options (length (ended_of old.calls) + 2) run.given run.made
 writes_frames file table wave options old new run =
     let none : run.refusal ≡ None = plain_is run.refusal None (ap end_without_numbers (sym run.status_is)) in
-    let ends = subst (λ (r : Option (Refusal Cause)). EndsBy at_once (answer_by (render file table wave options)) (render_inputs file table) r (length old.ended + 2) run.given run.taken run.made) none run.ends in
-    by_given file table wave options (length old.ended) run.made run.taken run.given ends.0 ends.1
+    let ends = subst (λ (r : Option (Refusal Cause)). EndsBy at_once (answer_by (render file table wave options)) (render_inputs file table) r (length (ended_of old.calls) + 2) run.given run.taken run.made) none run.ends in
+    by_given file table wave options (length (ended_of old.calls)) run.made run.taken run.given ends.0 ends.1
