@@ -8,9 +8,9 @@ use Rattle.snd_host.specs.Host.{Files, longest_output_name, rooms_less}
 use Rattle.snd_host.specs.Follows.{failure_of}
 use Rattle.command_runner.specs.OutputCalls.{bytes_to}
 use Rattle.snd_host.proofs.Writes.{index-rooms_less}
-use Rattle.command_runner.proofs.Places.{index-rooms_less_other}
 use Rattle.snd_host.specs.History.{ended_of, rooms_after, rooms_over, IsSteadyCall, AreSteadyCalls}
 use Rattle.command_runner.proofs.Woven.{same_number}
+use Rattle.run_laws.proofs.Rooms.{index-rooms_less_other}
 
 -- the number of the next output after a call
 abbrev pub number_after : Call → ℕ → ℕ

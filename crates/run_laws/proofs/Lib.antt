@@ -1,5 +1,6 @@
 pub mod Counting
 pub mod Cuts
+pub mod Delivered
 pub mod Delivering
 pub mod DeliveryEnds
 pub mod Ending

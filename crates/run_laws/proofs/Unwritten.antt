@@ -8,11 +8,11 @@ use Rattle.snd_host.specs.Host.{Output}
 use Rattle.command_runner.specs.OutputCalls.{Target, numbered, IsWriteTo, bytes_to, creations, endings, MakesAtOnce, MakesInTurn, MakesAs, Order, at_once, in_turn}
 use Rattle.command_runner.proofs.Woven.{bytes_more, other_number}
 
-bytes_to-creations : (file n : ℕ) (outputs : List Output) → bytes_to file (creations n outputs) ≡ []
+pub bytes_to-creations : (file n : ℕ) (outputs : List Output) → bytes_to file (creations n outputs) ≡ []
 bytes_to-creations file n [] = refl
 bytes_to-creations file n (o ∷ outputs) = bytes_to-creations file (n + 1) outputs
 
-bytes_to-endings : (file : ℕ) (targets : List Target) → bytes_to file (endings targets) ≡ []
+pub bytes_to-endings : (file : ℕ) (targets : List Target) → bytes_to file (endings targets) ≡ []
 bytes_to-endings file [] = refl
 bytes_to-endings file (t ∷ targets) = bytes_to-endings file targets
 

@@ -15,11 +15,11 @@ ghost use Rattle.run_laws.specs.Left.{LeavesNothing, LeavesAll, LeavesPart, Repo
 ghost use Rattle.run_laws.specs.Run.{IsRun, answered};
 ghost use Rattle.run_laws.specs.Rendered.{WritesFrames};
 
-/// Over every host, whatever it shows: where a render ends with 0, what it wrote to the WAV file joins to the frames of the run
+/// Over every host, whatever it shows: where a render ends with 0, its WAV file, its trace and its report are those of the run
 /// that the bytes give which it read.
 pub fn a_render_writes_the_frames_of_what_it_read()
     ensures { (file table wave : List ℕ) (options : Options) (old new : HostState) (run : IsRun (render file table wave options) old new statuses.Ok) →
-        WritesFrames options (length (ended_of old.calls) + 2) run.given run.made }
+        WritesFrames wave options (length (ended_of old.calls) + 2) run.given run.made }
 {}
 
 /// Of the calls for inputs, outputs and the report none comes after one that failed, and none is a write of no bytes.
