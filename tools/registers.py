@@ -144,9 +144,9 @@ def timer_tests():
         begin = new.start(timer, 64)
         new.write(CONTROL, 1 << timer, begin + tick * (3 * 64 + 32))
         new.read(counter, 4, begin + tick * (4 * 64 + 16))
-        for name, target, ticks in (('a greater target than its count: it counts there', 80, 80),
-                                    ('a target below its count: it counts when it has gone round by 256', 20, 276),
-                                    ('a target that equals its count: it counts when it has gone round by 256', 50, 306)):
+        for name, target, ticks in (('a target above its count: it counts there', 80, 80),
+                                    ('a target below its count: it counts when it has wrapped at 256', 20, 276),
+                                    ('a target that equals its count: it counts when it has wrapped at 256', 50, 306)):
             new = test(title + name)
             for behind in (-1, 0):
                 begin = new.start(timer, 100)
