@@ -1,6 +1,6 @@
 """SPC files that read timers, ports and what voices tell, and play what they read; examples/registers.asm is their driver.
 
-What is to be heard is worked out by register_rules.py, and the program only assembles the driver. A byte that isn't the same in all
+The expected sound is computed by register_rules.py, and the program only assembles the driver. A byte that isn't the same in all
 ways that an engine may go about it is no test.
 """
 import os
