@@ -1,9 +1,9 @@
 #!/usr/bin/env python3
-"""Tells where what was built lies: tools/built.py program|library|page|libgme
+"""Prints where what was built lies: tools/built.py program|library|page|libgme
 
 It prints the folder: crates/spcwave/out of the program and crates/player_c/out of the library, which tools/build has built, web/site of the page, which
 web/build makes of the library, and out/libgme of the libgme of extras/libgme/build. Where it isn't built yet, or the sources have changed since, it says so
-in place of that, and its status is 1. With --record before it, web/build and extras/libgme/build tell that theirs is made of the sources of now.
+in place of that, and its status is 1. With --record before it, web/build and extras/libgme/build record that theirs is made of the sources of now.
 """
 import hashlib
 import json
@@ -22,7 +22,7 @@ OF_LIBRARY = {'page': ('web/build', 'web/site',
                        ['web/build', 'web/translate.py', 'web/page', 'web/wasm', 'include', 'examples/gauss.table', 'examples/tune.spc']),
               'libgme': ('extras/libgme/build', 'out/libgme', ['extras/libgme', 'include'])}
 
-# The names that the shared library gives to programs, and the version by which they are told from later ones.
+# The names that the shared library gives to programs, and the version by which they differ from later ones.
 SYMBOLS = 'SPCWAVE_1.2 { global: spcwave_*; local: *; };\n'
 
 

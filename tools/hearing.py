@@ -45,7 +45,7 @@ class Recording:
         if min(abs(self.left_unit), abs(self.right_unit)) < 1:
             raise SystemExit('%s: the mark at its beginning is not heard on both sides' % path)
         if abs(self.stretch) > 0.05 or abs(self.unit(self.left, slots[-processor.MARK:]) / self.left_unit - 1) > 0.05:
-            # It has no mark at its end: the rate is that which the recording tells.
+            # It has no mark at its end: the rate is that of its header.
             self.step, self.stretch = rate / RATE, 0
             self.left_unit, self.right_unit = (self.unit(side, slots) for side in (self.left, self.right))
 
@@ -69,7 +69,7 @@ class Recording:
                 for side, unit in ((self.left, self.left_unit), (self.right, self.right_unit))]
 
 
-def told(test):
+def named(test):
     a, x, y, psw, sp, *code = bytes.fromhex(test)[:8]
     return 'A=%02x X=%02x Y=%02x PSW=%02x SP=%02x, code %02x %02x %02x' % (a, x, y, psw, sp, *code)
 
@@ -95,7 +95,7 @@ def differences(recording, tests, slots):
 
 
 def late(recording, slot, following):
-    """By how many samples the right side comes late from a pair to the next; None where they are too near to tell."""
+    """By how many samples the right side comes late from a pair to the next; None where they are too near for that."""
     before, after = (processor.signed(pair[2]) * recording.right_unit for pair in (slot, following))
     if abs(slot[2] - following[2]) < 32 or abs(after - before) < 32 * abs(recording.right_unit):
         return None
@@ -148,19 +148,19 @@ def compare(path, file):
     for (opcode, word), tests in sorted(found.items()):
         number, expected, heard = tests[0]
         print('  %02x %-11s %3d tests; first %d: %s; expected %02x, heard %02x'
-              % (opcode, word, len(tests), number, told(file['tests'][number]), expected, heard))
+              % (opcode, word, len(tests), number, named(file['tests'][number]), expected, heard))
     longer = lengths(recording, file['tests'], file['slots'])
     for opcode, cycles in longer.items():
         print('  %02x lasts about %.1f cycles %s a test' % (opcode, abs(cycles), 'more' if cycles > 0 else 'less'))
     stretch = recording.stretch if abs(recording.stretch) > 0.005 else 0
     if stretch:
-        print('  the whole lasts %.1f %% %s: an instruction of the driver does, or the recording has another rate than it tells'
+        print('  the whole lasts %.1f %% %s: an instruction of the driver does, or the recording has another rate than its header has'
               % (100 * abs(stretch), 'longer' if stretch > 0 else 'shorter'))
     return Found(found, longer, stretch, heard_tests(recording, file['tests'], file['slots']) == len(file['tests']))
 
 
 class Reads:
-    """A recording of a file of tools/registers.py: a mark tells where it begins, and one more where the bytes of each test begin."""
+    """A recording of a file of tools/registers.py: a mark shows where it begins, and one more where the bytes of each test begin."""
 
     def __init__(self, path):
         self.left, self.right, rate = read(path)

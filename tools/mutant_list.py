@@ -171,7 +171,7 @@ MUTANTS = [
     Mutant('bits of direct bytes above 255', ['spc700_asm'], ['tests_files'], [
         (ASM_OPERANDS, 'is_great (OwnBit own) value bit = is_above 0xFF value || nat_lt 7 (unwrap_or bit 0)', 'is_great (OwnBit own) value bit = nat_lt 7 (unwrap_or bit 0)'),
         ('spc700_asm/src/faults.rt', 'is_above(0xff, operand.value) || operand.bit.unwrap_or(0) > 7', 'operand.bit.unwrap_or(0) > 7')]),
-    Mutant('names where a bit is told', ['spc700_asm'], ['tests_files'], [
+    Mutant('names where a bit is given', ['spc700_asm'], ['tests_files'], [
         (ASM_OPERANDS, 'fills register MemoryBit value bit = is_some bit && is_plain value', 'fills register MemoryBit value bit = is_some bit'),
         (ASM_OPERANDS, 'fills register (OwnBit own) value bit = is_some bit && is_plain value', 'fills register (OwnBit own) value bit = is_some bit'),
         (ASM_STATEMENT, 'bit.is_some() && is_plain(value)', 'bit.is_some()')]),
@@ -244,7 +244,7 @@ MUTANTS = [
         (TAGS, 'field_start Fade = 0xAC', 'field_start Fade = 0xAD'), (TAGS_CODE, 'Tag::Fade => 0xAC', 'Tag::Fade => 0xAD')]),
     Mutant('1Bh for the mark of tags', ['spc_form'], ['tests_files', 'tests_commands'], [
         (TAGS, 'tag_mark_of file == 0x1A', 'tag_mark_of file == 0x1B'), (TAGS_CODE, 'bytes[TAG_MARK_PLACE] == 0x1A', 'bytes[TAG_MARK_PLACE] == 0x1B')]),
-    Mutant('a length of no seconds is told by the tags', ['spc_form'], ['tests_files'], [
+    Mutant('a length of no seconds is given by the tags', ['spc_form'], ['tests_files'], [
         (TAGS, 'is_some_time (Some seconds) = not (seconds == 0)', 'is_some_time (Some seconds) = not (seconds == 70000)'),
         (TAGS_CODE, 'Some(seconds) => seconds != 0,', 'Some(_seconds) => true,')]),
     Mutant('the artist before the game for callers', ['spc_form'], ['tests_files'], [
@@ -349,7 +349,7 @@ MUTANTS = [
         (LINE, 'decimal level ++ codes " " ++ signed_decimal out', 'signed_decimal out ++ codes " " ++ decimal level'),
         (LINE_CODE, 'line.append_decimal(level);', 'line.append_decimal(voice + 0);'), (LINE_CODE, 'line.append_decimal(out);', 'line.append_decimal(level);'),
         (LINE_CODE, 'line.append_decimal(voice + 0);', 'line.append_decimal(out);')]),
-    Mutant('the end of a block told before the key on', ['trace_form'], ['tests_parts'], [
+    Mutant('the end of a block noted before the key on', ['trace_form'], ['tests_parts'], [
         (LINE, 'letter_or_dash keyed (codes "k") ++ letter_or_dash ended (codes "l")', 'letter_or_dash ended (codes "l") ++ letter_or_dash keyed (codes "k")'),
         (LINE_CODE, 'line.append_mark(keyed, b"k");\n            line.append_mark(ended, b"l");',
          'line.append_mark(ended, b"l");\n            line.append_mark(keyed, b"k");')]),
@@ -547,7 +547,7 @@ MUTANTS = [
         (OUTSIDE, 'if address == KON', 'if address % 0x80 == KON'),
         (DSP_CODE, '        if addr >= 0x80 {\n            return;\n        }\n        self.fresh', '        self.fresh'),
         (DSP_CODE, 'let place = usize::from(addr);', 'let place = usize::from(addr % 0x80);')]),
-    Mutant('a block without an end bit tells in ENDX, too', ['voice_unit'], ['tests_sounds'], [
+    Mutant('a block without an end bit sets its bit of ENDX, too', ['voice_unit'], ['tests_sounds'], [
         (VOICE, 'is_at_last_group v && has_end header', 'is_at_last_group v'),
         ('voice_unit/specs/Row.antt', 'at.offset == 7 && has_end (byte_at memory at.block)', 'at.offset == 7'),
         ('voice_unit/src/span_plan.rt', 'if has_end(last.header) {', 'if true {'),
@@ -749,14 +749,14 @@ MUTANTS = [
         (OPTIONS, '(once options.trace (name_in value))', '(name_in value)'), (OPTIONS_CODE, '(None, Some(trace)) =>', '(_, Some(trace)) =>')]),
     Mutant('--voices twice', ['command_line'], ['spcwave'], [
         (OPTIONS, '(once options.voices (voices_in value))', '(voices_in value)'), (OPTIONS_CODE, '(None, Some(voices)) =>', '(_, Some(voices)) =>')]),
-    Mutant('--search takes 2 ways at least', ['command_line'], ['spcwave'], [
+    Mutant('--search takes 2 candidates at least', ['command_line'], ['spcwave'], [
         (ENCODE_WORDS, 'nat_le 1 (decimal_value word)', 'nat_le 2 (decimal_value word)'), (ENCODE_WORDS_CODE, '(1..=u64::from(MAX_CANDIDATES))', '(2..=u64::from(MAX_CANDIDATES))')]),
     Mutant('--loop-at twice', ['command_line'], ['spcwave'], [
         (ENCODE_WORDS, '(once options.loop_at (loop_at_in value))', '(loop_at_in value)'), (ENCODE_WORDS_CODE, '(None, Some(sample)) =>', '(_, Some(sample)) =>')]),
     Mutant('a table whose name begins with a dash', ['command_line'], ['spcwave'], [
         ('command_line/specs/Command.antt', 'if is_name file && (is_name table && is_name wave) then render_with', 'if is_name file && is_name wave then render_with'),
         ('command_line/src/words.rt', 'is_name(file.as_str()) && is_name(table.as_str()) && is_name(wave.as_str())', 'is_name(file.as_str()) && is_name(wave.as_str())')]),
-    Mutant('ways in three digits', ['command_line'], ['spcwave'], [
+    Mutant('a width of three digits', ['command_line'], ['spcwave'], [
         (ENCODE_WORDS, 'is_number 2 word', 'is_number 3 word'), (ENCODE_WORDS_CODE, 'is_number(2, word)', 'is_number(3, word)')]),
     Mutant('samples to loop to in seven digits', ['command_line'], ['spcwave'], [
         (ENCODE_WORDS, 'is_number 6 word', 'is_number 7 word'), (ENCODE_WORDS_CODE, 'is_number(6, word)', 'is_number(7, word)')]),
@@ -786,13 +786,13 @@ MUTANTS = [
         ('brr_encode/src/encoder.rt', 'MAX_SAMPLES: usize = 116480', 'MAX_SAMPLES: usize = 116496'), ('sample_rip/src/blocks.rt', 'MAX_BLOCKS: u32 = 7280', 'MAX_BLOCKS: u32 = 7281')]),
     Mutant('63 checkpoints', ['cut_form', 'mark_laws'], ['tests_renders', 'tests_tunes'], [
         (CUT, 'MAX_CHECKPOINTS: u32 = 64', 'MAX_CHECKPOINTS: u32 = 63')]),
-    Mutant('4,097 pages for lists of cuts', ['cut_form', 'cut_files', 'command_cuts'], ['tests_tunes'], [
+    Mutant('4,097 pages for lists of cuts', ['cut_form', 'session_files', 'command_cuts'], ['tests_tunes'], [
         (CUT, 'SLOTS_FOR_CUTS: u32 = 4096', 'SLOTS_FOR_CUTS: u32 = 4097')]),
-    Mutant('4,095 pages for lists of cuts', ['cut_form', 'cut_files', 'command_cuts'], ['tests_tunes'], [
+    Mutant('4,095 pages for lists of cuts', ['cut_form', 'session_files', 'command_cuts'], ['tests_tunes'], [
         (CUT, 'SLOTS_FOR_CUTS: u32 = 4096', 'SLOTS_FOR_CUTS: u32 = 4095')]),
     Mutant('numbers of eight digits at most in lists and scripts', ['cut_form', 'cut_text'], ['tests_files'], [
         ('cut_form/specs/TextLines.antt', 'max_digits = 9', 'max_digits = 8'), ('cut_text/src/lines.rt', 'MAX_DIGITS: usize = 9', 'MAX_DIGITS: usize = 8')]),
-    Mutant('the position told before the frames that were played', ['cut_form', 'session_files'], ['tests_tunes'], [
+    Mutant('the position in the reply before the frames that were played', ['cut_form', 'session_files'], ['tests_tunes'], [
         (SESSION, 'codes "played " ++ decimal count ++ codes " at " ++ decimal at', 'codes "played " ++ decimal at ++ codes " at " ++ decimal count'),
         (REPLIES, 'b"played ", u64::from(count)', 'b"played ", u64::from(at)'), (REPLIES, 'b" at ", u64::from(at)', 'b" at ", u64::from(count)')]),
     Mutant('lists of 1,001 cuts', ['cut_form', 'cut_text'], ['tests_files'], [
@@ -821,7 +821,7 @@ MUTANTS = [
     Mutant('a register of no use stores nothing', ['dsp_state', 'dsp_core'], ['tests_sounds'], [
         ('dsp_state/specs/Outside.antt', 'if nat_le 0x80 address then s', 'if nat_le 0x80 address || address % 16 == 10 then s'), ('dsp_state/specs/Outside.antt', '◌==◌, nat_le', '◌==◌, ◌||◌, nat_le'),
         ('dsp_core/src/dsp.rt', '        if addr >= 0x80 {\n            return;', '        if addr >= 0x80 || addr % 16 == 10 {\n            return;')]),
-    Mutant('the record of a write of ENDX tells what is stored', ['lock_step', 'sound_bus', 'lag_bus'], ['tests_tunes'], [
+    Mutant('the record of a write of ENDX has what is stored', ['lock_step', 'sound_bus', 'lag_bus'], ['tests_tunes'], [
         ('lock_step/specs/LockStep.antt', 'Reg sample dsp_address value', 'Reg sample dsp_address (if dsp_address == 0x7C then 0 else value)'),
         ('sound_bus/src/plain.rt', '                addr: address,\n                value,', '                addr: address,\n                value: if address == 0x7C { 0 } else { value },'),
         ('lag_bus/src/lag.rt', '            addr: address,\n            value,', '            addr: address,\n            value: if address == 0x7C { 0 } else { value },')]),

@@ -1,7 +1,7 @@
 """SPC files that make one instruction after another and play what each left; examples/processor.asm is their driver.
 
 The tables beside the driver are drawn so that a test reads and writes what is filled anew before it, and comes back.
-What is to be heard is told by the trace of the program's own render, which is proved to be that of the definitions.
+What is to be heard is read off the trace of the program's own render, which is proved to be that of the definitions.
 """
 import os
 import random
@@ -194,7 +194,7 @@ def slots_of(trace):
 
 
 def make(program, first, last, each, seed, path):
-    """Writes the file of some opcodes; what is told of it."""
+    """Writes the file of some opcodes, and returns what is expected of it."""
     picked = random.Random('%d %d' % (seed, first))
     with tempfile.TemporaryDirectory() as folder:
         code, trace = os.path.join(folder, 'code'), os.path.join(folder, 'trace')

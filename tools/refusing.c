@@ -1,6 +1,6 @@
 /* Refuses one call of a program that it is loaded into (LD_PRELOAD). REFUSE=KIND:N says which: KIND is memory, open,
  * read or write, and the N-th such call after the program began fails, counted from 1. When it does, a byte goes to the
- * descriptor whose number stands in REFUSE_TOLD. */
+ * descriptor whose number stands in REFUSE_NOTE. */
 #define _GNU_SOURCE
 #include <errno.h>
 #include <fcntl.h>
@@ -17,17 +17,17 @@ extern void *__libc_realloc(void *old, size_t size);
 static const char *kind;
 static size_t kind_length;
 static long number, calls;
-static int told;
+static int descriptor;
 
 __attribute__((constructor)) static void begin(void)
 {
     char *refuse = getenv("REFUSE"), *colon = refuse ? strchr(refuse, ':') : NULL;
-    char *teller = getenv("REFUSE_TOLD");
+    char *note = getenv("REFUSE_NOTE");
     if (!colon)
         return;
     kind_length = colon - refuse;
     number = atol(colon + 1);
-    told = teller ? atoi(teller) : -1;
+    descriptor = note ? atoi(note) : -1;
     kind = refuse;
 }
 
@@ -35,8 +35,8 @@ static int is_refused(const char *called, int error)
 {
     if (!kind || strlen(called) != kind_length || strncmp(kind, called, kind_length) || ++calls != number)
         return 0;
-    if (told >= 0)
-        syscall(SYS_write, told, "!", 1);
+    if (descriptor >= 0)
+        syscall(SYS_write, descriptor, "!", 1);
     errno = error;
     return 1;
 }

@@ -1,8 +1,8 @@
 """What a driver reads of timers, ports and voices, worked out apart from the program: it serves registers.py.
 
 `Machine` has the rules of timers, ports and voices, from Anomie's SPC700 and S-DSP documents and as docs/CONFORMANCE.md says where these
-leave something open, and obeys the script of examples/registers.asm with the cycles that each command takes. It does so in
-many ways: other phases of the timers' ticks, of samples, of key polling and of the counter of rates, accesses earlier within
+leave something open, and obeys the script of examples/registers.asm with the cycles that each command takes. It does so as
+many engines would: with other phases of the timers' ticks, of samples, of key polling and of the counter of rates, accesses earlier within
 their instruction, and a sound chip that takes writes and shows its registers some samples later.
 """
 import collections
@@ -10,7 +10,7 @@ import random
 
 COMMANDS = ('write', 'write_dsp', 'read', 'read_two', 'read_dsp', 'reached_dsp', 'wait', 'await_count', 'await_change', 'play', 'end')
 FETCH = 57                      # cycles until a command begins
-# Of a command: the cycles from its begin to its access and to its end. `wait` and `await_` take what they are told.
+# Of a command: the cycles from its begin to its access and to its end. `wait` and `await_` take as long as the script says.
 CYCLES = {'write': (7, 10), 'write_dsp': (11, 14), 'read': (6, 21), 'read_two': (5, 37), 'read_dsp': (10, 28), 'reached_dsp': (10, 35)}
 SAMPLE = 32
 PAIR = 974                      # cycles that a pair of volumes lasts, and the mark before them and the silence behind them
@@ -131,13 +131,13 @@ class Voice:
 class Chip:
     """The S-DSP as the driver sees it. Voice 0, which plays, shows nothing of itself here: its pitch is 0."""
 
-    def __init__(self, way):
+    def __init__(self, engine):
         self.registers, self.queue = bytearray(128), []
-        self.history = collections.deque(maxlen=way.reads_late + 1)         # of the registers, the last one that of now
+        self.history = collections.deque(maxlen=engine.reads_late + 1)         # of the registers, the last one that of now
         self.voices = {1: Voice(), 2: Voice()}
         self.waiting, self.taken, self.keyed = 0, 0, 0        # KON as written; what was taken of it at the last poll, and ever
-        self.made, self.counter = way.parity, way.counter
-        self.reads_late, self.writes_late = way.reads_late, way.writes_late
+        self.made, self.counter = engine.parity, engine.counter
+        self.reads_late, self.writes_late = engine.reads_late, engine.writes_late
 
     def write(self, address, value):
         if address < 128:
@@ -184,8 +184,8 @@ class Chip:
         self.made += 1
 
 
-class Way:
-    """What an engine may have otherwise."""
+class Engine:
+    """What may differ between engines."""
 
     def __init__(self, number):
         picked = random.Random(number)
@@ -195,17 +195,17 @@ class Way:
         self.reads_late, self.writes_late = ((0, 0), (3, 0), (0, 3), (2, 2))[number >> 2 & 3]
 
 
-WAYS = [Way(number) for number in range(16)]
+ENGINES = [Engine(number) for number in range(16)]
 
 
 class Machine:
     """Obeys a script; what it reads, test by test."""
 
-    def __init__(self, way):
-        self.way, self.clock = way, way.phase
-        self.timers, self.chip = [Timer() for _ in range(3)], Chip(way)
+    def __init__(self, engine):
+        self.engine, self.clock = engine, engine.phase
+        self.timers, self.chip = [Timer() for _ in range(3)], Chip(engine)
         self.cells, self.ports, self.address = {}, list(GIVEN_PORTS), 0
-        self.read_bytes, self.told = [], []
+        self.read_bytes, self.tests_read = [], []
 
     def passes(self, cycles):
         before, self.clock = self.clock, self.clock + cycles
@@ -248,7 +248,7 @@ class Machine:
         self.passes(FETCH)
         if name in CYCLES:
             access, end = CYCLES[name]
-            access -= self.way.store_early if name.startswith('write') else 0
+            access -= self.engine.store_early if name.startswith('write') else 0
             self.passes(access)
             if name.endswith('_dsp'):
                 self.address = first
@@ -274,5 +274,5 @@ class Machine:
             self.polls((11,), lambda: self.chip.read(first) != second)
         elif name == 'play':
             self.passes(PAIR * (pairs(self.read_bytes) + 2))
-            self.told.append(self.read_bytes)
+            self.tests_read.append(self.read_bytes)
             self.read_bytes = []

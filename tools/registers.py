@@ -1,7 +1,7 @@
-"""SPC files that read timers, ports and what voices tell, and play what they read; examples/registers.asm is their driver.
+"""SPC files that read timers, ports and the registers of voices, and play what they read; examples/registers.asm is their driver.
 
-The expected sound is computed by register_rules.py, and the program only assembles the driver. A byte that isn't the same in all
-ways that an engine may go about it is no test.
+The expected sound is computed by register_rules.py, and the program only assembles the driver. A byte that isn't the same on all
+engines is no test.
 """
 import os
 import struct
@@ -353,7 +353,7 @@ def envelope_tests():
         new.look(0x18, 2 * 4, SAMPLE * PERIODS[rate] * 7 // 2)
     for name, gain, before, steps in (('falls in line', 0x80, 0x7F, 8), ('falls in a curve', 0xA0, 0x7F, 20), ('rises bent', 0xE0, 0x58, 14)):
         new = test('ENVX, GAIN %s' % name)
-        # voice 2 rises at the same rate, so a change of its ENVX tells when that rate comes
+        # voice 2 rises at the same rate, so a change of its ENVX shows when that rate comes
         new.key_on(1, gain=before)
         new.key_on(2, gain=0)
         new.dsp(0x27, 0xC0 + 15, SAMPLE * 30)
@@ -382,17 +382,17 @@ FILES = {
 
 
 def expected(tests):
-    """What each test reads, in all ways the same; and how many seconds it lasts at most."""
+    """What each test reads, the same on all engines; and how many seconds it lasts at most."""
     found, longest = None, 0
-    for way in rules.WAYS:
-        machine = rules.Machine(way)
+    for engine in rules.ENGINES:
+        machine = rules.Machine(engine)
         for test in tests:
             for command in (*test.commands, ('play', 0, 0)):
                 machine.obey(*command)
-        for test, one, other in zip(tests, machine.told, found or machine.told):
+        for test, one, other in zip(tests, machine.tests_read, found or machine.tests_read):
             known = [byte if byte is not None else read for byte, read in zip(test.wanted, one, strict=True)]
-            assert one == other == known, (test.name, vars(way), one, other, test.wanted)
-        found, longest = machine.told, max(longest, machine.clock)
+            assert one == other == known, (test.name, vars(engine), one, other, test.wanted)
+        found, longest = machine.tests_read, max(longest, machine.clock)
     return found, longest // (32000 * SAMPLE) + 1
 
 
@@ -418,7 +418,7 @@ def spc_file(driver, tests):
 
 
 def make(program, name, path):
-    """Writes a file; what is told of it. The program only assembles the driver."""
+    """Writes a file, and returns what is expected of it. The program only assembles the driver."""
     tests = FILES[name]()
     values, seconds = expected(tests)
     with tempfile.TemporaryDirectory() as folder:

@@ -134,7 +134,7 @@ class Refusing:
 
     def run(self, program, words, folder, kind, number):
         reading, writing = os.pipe()
-        added = {'LD_PRELOAD': self.library, 'REFUSE': f'{kind}:{number}', 'REFUSE_TOLD': str(writing)}
+        added = {'LD_PRELOAD': self.library, 'REFUSE': f'{kind}:{number}', 'REFUSE_NOTE': str(writing)}
         end = run(program, words, folder, env={**os.environ, **added}, pass_fds=(writing,))
         os.close(writing)
         end.refused = bool(os.read(reading, 1))

@@ -1,6 +1,6 @@
 """Single steps of `spc700_exec` over plain memory, which the scripts beside this file share.
 
-A program is made, on a copy of the crates, that makes each step and tells what it leaves and what it asks of the bus, call by
+A program is made, on a copy of the crates, that makes each step and prints what it leaves and what it asks of the bus, call by
 call (`rt try`: the code of the proved crate, built without its proofs and with checks as it runs). It is built once, and gets the
 steps in parts; it has one memory, and puts back after each step what that has changed.
 """
@@ -15,7 +15,7 @@ import time
 import runs
 
 PROGRAM = os.path.join(runs.TOP, 'tools', 'vectors_data', 'step_program.txt')
-PART = 4000                     # steps: what they tell stays below the MiB that a run may print
+PART = 4000                     # steps: what they print stays below the MiB that a run may print
 SECONDS = 100                   # of a part, which takes a few
 
 
@@ -41,12 +41,12 @@ def minutes(seconds):
 
 
 class Progress:
-    """Tells how many steps are made and about how long the others take, on standard error where somebody may look."""
+    """Shows how many steps are made and about how long the others take, on standard error where somebody may look."""
 
     def __init__(self, count):
         self.count, self.start, self.shown = count, None, 0
 
-    def tell(self, made):
+    def show(self, made):
         now = time.monotonic()
         if self.start is None:          # the first part is there: the program is built
             self.start = now, made
@@ -61,7 +61,7 @@ def is_step(line):
 
 
 def run(lines, memory=0):
-    """Makes the program, and runs it on the lines; the lines that it tells. Ends with what `rt` said where it doesn't tell all.
+    """Makes the program, and runs it on the lines; the lines that it prints. Ends with what `rt` said where some are missing.
 
     Bytes that a line doesn't give are those of a memory that is drawn by a number; by 0 they are 0."""
     with tempfile.TemporaryDirectory() as folder:
@@ -69,18 +69,18 @@ def run(lines, memory=0):
         os.makedirs(parts)
         for at in range(0, len(lines), PART):
             runs.write(os.path.join(parts, '%06d' % (at // PART)), '\n'.join([str(memory)] + lines[at:at + PART]).encode() + b'\n')
-        told, progress = [], Progress(len(lines))
+        lines_made, progress = [], Progress(len(lines))
         # One step of the interpreter: only what is built with checks answers.
         words = ['rt', 'try', '--steps', '1', '--seconds', str(SECONDS), '--cases', parts]
         with open(os.path.join(folder, 'said'), 'w+', encoding='utf-8') as said:
             with subprocess.Popen(words, cwd=crate, stdout=subprocess.PIPE, stderr=said, text=True) as made:
                 for line in made.stdout:
                     if is_step(line):
-                        told.append(line.rstrip('\n'))
+                        lines_made.append(line.rstrip('\n'))
                     elif line.startswith('== '):
-                        progress.tell(len(told))
+                        progress.show(len(lines_made))
             said.seek(0)
-            if len(told) != len(lines):
+            if len(lines_made) != len(lines):
                 wrong = [line for line in said if not re.match(r'case=.* run=ended status=0 ', line)]
-                sys.exit('%d of %d steps were made:\n%s' % (len(told), len(lines), ''.join(wrong)))
-        return told
+                sys.exit('%d of %d steps were made:\n%s' % (len(lines_made), len(lines), ''.join(wrong)))
+        return lines_made

@@ -11,7 +11,7 @@ use Rattle.exit_status.specs.declared.cause.Cause.{Cause}
 use Rattle.input_files.specs.Reading.{answer_from, input_limit, input_up_to}
 use Rattle.input_files.specs.Inputs.{spc_input, table_input, file_in, table_in}
 use Rattle.tune_opening.specs.Tune.{tune_frames, tune_pages}
-use Rattle.cut_files.specs.CutFiles.{cuts_report}
+use Rattle.session_files.specs.CutFiles.{cuts_report}
 use Rattle.command_cuts.specs.Lists.{cuts_in}
 
 -- what cuts answer over a file and a table, with these voices muted: their frames are those of the run before any fade

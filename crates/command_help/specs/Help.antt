@@ -11,7 +11,7 @@ help_text =
     codes "  spcwave render SPC TABLE WAV [--samples N] [--trace FILE] [--voices HH] [--mute HH]: render a tune, and trace it on request\n" ++
     codes "  spcwave info SPC: show the tags and the registers of a tune\n" ++
     codes "  spcwave brr IN OUT: decode BRR blocks to a WAV file\n" ++
-    codes "  spcwave encode WAV BRR [--loop] [--loop-at SAMPLE] [--search WAYS]: encode a WAV file to BRR blocks\n" ++
+    codes "  spcwave encode WAV BRR [--loop] [--loop-at SAMPLE] [--search WIDTH]: encode a WAV file to BRR blocks\n" ++
     codes "  spcwave demo NUMBER OUT: make a tune from a number\n" ++
     codes "  spcwave check NUMBER: render that tune for ten seconds, and tell sums over its frames\n" ++
     codes "  spcwave asm IN ORIGIN OUT: assemble a program of the SPC700\n" ++

@@ -20,7 +20,7 @@ spcwave renders SPC music files to WAV files. Its commands:\n\
 \x20 spcwave render SPC TABLE WAV [--samples N] [--trace FILE] [--voices HH] [--mute HH]: render a tune, and trace it on request\n\
 \x20 spcwave info SPC: show the tags and the registers of a tune\n\
 \x20 spcwave brr IN OUT: decode BRR blocks to a WAV file\n\
-\x20 spcwave encode WAV BRR [--loop] [--loop-at SAMPLE] [--search WAYS]: encode a WAV file to BRR blocks\n\
+\x20 spcwave encode WAV BRR [--loop] [--loop-at SAMPLE] [--search WIDTH]: encode a WAV file to BRR blocks\n\
 \x20 spcwave demo NUMBER OUT: make a tune from a number\n\
 \x20 spcwave check NUMBER: render that tune for ten seconds, and tell sums over its frames\n\
 \x20 spcwave asm IN ORIGIN OUT: assemble a program of the SPC700\n\

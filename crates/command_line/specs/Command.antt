@@ -2,8 +2,8 @@
 use Rattle.std.specs.Prelude.{ℕ, ◌&&◌, ◌||◌, Bool, true, false, List, [], ◌∷◌, Option, Some, None, codes, if◌then◌else◌}
 use Rattle.std.specs.Str.{bytes_eq}
 use Rattle.brr_search.specs.declared.options.EncodeOptions.{EncodeOptions}
-use Rattle.render_options.specs.Options.{Options}
-use Rattle.render_options.specs.declared.SessionOptions.{SessionOptions}
+use Rattle.command_render.specs.Options.{Options}
+use Rattle.command_serve.specs.declared.options.SessionOptions.{SessionOptions}
 use Rattle.command_line.specs.EncodeWords.{encode_options_in}
 use Rattle.command_line.specs.Options.{is_name, options_in, demo_number_in, origin_in, range_in}
 use Rattle.command_line.specs.SessionWords.{session_options_in, muted_in}

@@ -1,10 +1,8 @@
 -- What the words that were read mean.
-use Rattle.std.specs.Prelude.{◌≤◌}
-use Rattle.page_pool.specs.Pool.{max_pages}
 use Rattle.brr_search.specs.Options as encoding
 use Rattle.command_line.specs.Command as command
-use Rattle.cut_form.specs.Checkpoints.{min_pages}
-use Rattle.render_options.specs.Options.{options_of, SamplesWithinHour}
+use Rattle.command_render.specs.Options.{options_of, SamplesWithinHour}
+use Rattle.command_serve.specs.Serve.{AreOptionsInRange}
 use Rattle.command_line.specs.declared.words.Command.{Command}
 use Rattle.command_line.specs.declared.words.Command.TheVariants.{Usage, Help, Version, Brr, Info, Encode, Render, Demo, Check, Asm, Dis, Rip, Cuts, Serve}
 
@@ -23,7 +21,7 @@ AreInRange (Asm input origin output) = Unit {0}
 AreInRange (Dis input origin output) = Unit {0}
 AreInRange (Rip file prefix range) = Unit {0}
 AreInRange (Cuts file table list wave muted) = Unit {0}
-AreInRange (Serve file table script wave options) = (min_pages ≤ options.pages) × (options.pages ≤ max_pages)
+AreInRange (Serve file table script wave options) = AreOptionsInRange options
 
 abbrev pub meaning_of : Command → command.Command
 meaning_of Usage = command.usage

@@ -9,7 +9,7 @@ use Rattle.num_fix.specs.Limits.{max_frames}
 use Rattle.page_pool.specs.Pool.{max_pages}
 use Rattle.cut_form.specs.Checkpoints.{min_pages}
 use Rattle.cut_form.specs.CutBook.{slots_for_cuts}
-use Rattle.render_options.specs.Options.{Options}
+use Rattle.command_render.specs.Options.{Options}
 
 abbrev pub no_options : Options
 no_options = record { samples = None; trace = None; voices = None; muted = None }

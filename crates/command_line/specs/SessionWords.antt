@@ -4,7 +4,7 @@ use Rattle.std.specs.Option.{option_map}
 use Rattle.std.specs.Str.{bytes_eq}
 use Rattle.page_pool.specs.Pool.{max_pages}
 use Rattle.cut_form.specs.Checkpoints.{min_pages}
-use Rattle.render_options.specs.declared.SessionOptions.{SessionOptions}
+use Rattle.command_serve.specs.declared.options.SessionOptions.{SessionOptions}
 use Rattle.command_line.specs.Options.{once, voices_in, pages_in, usual_pages, options_from}
 use Rattle.command_line.specs.declared.session_words.GivenOptions.{GivenOptions}
 

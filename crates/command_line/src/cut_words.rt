@@ -1,14 +1,13 @@
 // The words after `cuts` and `serve`.
-ghost use Rattle.std.specs.Prelude.{◌≡◌, ◌≤◌, map, string_bytes, IfSome};
-ghost use Rattle.page_pool.specs.Pool.{max_pages};
+ghost use Rattle.std.specs.Prelude.{◌≡◌, map, string_bytes, IfSome};
 ghost use Rattle.command_line.specs.Command.{cuts_with, cuts_command, serve_with, serve_command};
-ghost use Rattle.cut_form.specs.Checkpoints.{min_pages};
+ghost use Rattle.command_serve.specs.Serve.{AreOptionsInRange};
 ghost use Rattle.command_line.specs.Meaning.{meaning_of, AreInRange};
 
 use crate::options::is_name;
 use crate::session_words::{read_muted, read_session_options};
 use crate::words::Command;
-use render_options::SessionOptions;
+use command_serve::SessionOptions;
 
 /// The command `cuts` with these names and muted voices.
 fn cuts_with<'a>(
@@ -64,7 +63,7 @@ fn serve_with<'a>(
     wave: &'a str,
     options: Option<SessionOptions>,
 ) -> Command<'a>
-    requires { IfSome options (λ options. (min_pages ≤ options.pages) × (options.pages ≤ max_pages)) }
+    requires { IfSome options (λ options. AreOptionsInRange options) }
     ensures meaning { meaning_of result ≡ serve_with file.now table.now script.now wave.now options }
     ensures in_range { AreInRange result }
 {

@@ -2,11 +2,11 @@
 ghost use Rattle.std.specs.Prelude.{◌≡◌, ◌≤◌, map, string_bytes, option_map, true, IfSome};
 ghost use Rattle.page_pool.specs.Pool.{max_pages};
 ghost use Rattle.cut_form.specs.Checkpoints.{min_pages};
-ghost use Rattle.render_options.specs.Options.{options_of, SamplesWithinHour};
+ghost use Rattle.command_render.specs.Options.{options_of, SamplesWithinHour};
 ghost use Rattle.command_line.specs.Options.{is_name, count_in, demo_number_in, name_in, voices_in, origin_in, range_in, pages_in, options_with, options_in};
 
+use command_render::RenderOptions;
 use cut_form::{MAX_FRAMES, PAGE_COUNT};
-use render_options::RenderOptions;
 use text_form::{decimal_value, is_number};
 
 /// The greatest number of a demo file.

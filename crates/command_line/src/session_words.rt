@@ -1,13 +1,12 @@
 // The options of `serve` and of `cuts`.
-ghost use Rattle.std.specs.Prelude.{◌≡◌, ◌≤◌, map, string_bytes, Some, IfSome};
-ghost use Rattle.page_pool.specs.Pool.{max_pages};
-ghost use Rattle.cut_form.specs.Checkpoints.{min_pages};
+ghost use Rattle.std.specs.Prelude.{◌≡◌, map, string_bytes, Some, IfSome};
+ghost use Rattle.command_serve.specs.Serve.{AreOptionsInRange};
 ghost use Rattle.command_line.specs.Options.{options_from};
 ghost use Rattle.command_line.specs.SessionWords.{ArePagesInRange, none_given, given_with, session_options, session_options_in, muted_in};
 
 use crate::options::{pages_in, voices_in};
+use command_serve::SessionOptions;
 use cut_form::SLOTS_FOR_CUTS;
-use render_options::SessionOptions;
 
 /// The options of `serve`, each with its value where it was given.
 #[derive(Clone, Copy)]
@@ -65,8 +64,7 @@ fn read_given(words: &[String]) -> Option<GivenOptions>
 fn session_options(given: GivenOptions) -> SessionOptions
     requires { ArePagesInRange given }
     ensures options { result ≡ session_options given }
-    ensures enough { min_pages ≤ result.pages }
-    ensures few { result.pages ≤ max_pages }
+    ensures in_range { AreOptionsInRange result }
 {
     SessionOptions {
         pages: given.pages.unwrap_or(SLOTS_FOR_CUTS),
@@ -77,7 +75,7 @@ fn session_options(given: GivenOptions) -> SessionOptions
 /// Reads the options of `serve`.
 pub fn read_session_options(words: &[String]) -> Option<SessionOptions>
     ensures options { result ≡ session_options_in (map string_bytes words.now) }
-    ensures in_range { IfSome result (λ options. (min_pages ≤ options.pages) × (options.pages ≤ max_pages)) }
+    ensures in_range { IfSome result (λ options. AreOptionsInRange options) }
 {
     match read_given(words) {
         Some(given) => Some(session_options(given)),

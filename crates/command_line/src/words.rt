@@ -2,14 +2,15 @@
 ghost use Rattle.std.specs.Prelude.{◌≡◌, map, string_bytes, option_map, IfSome};
 ghost use Rattle.command_line.specs.Command.{command_of, alone, brr_command, info_command, encode_with, encode_command, have_same_name, render_with, render_command, demo_command, check_command, asm_command, dis_command, rip_with, rip_over, rip_command};
 ghost use Rattle.brr_search.specs.Options as encoding;
-ghost use Rattle.render_options.specs.Options.{options_of, SamplesWithinHour};
+ghost use Rattle.command_render.specs.Options.{options_of, SamplesWithinHour};
 ghost use Rattle.command_line.specs.Meaning.{meaning_of, AreInRange};
 
 use crate::cut_words::{read_cuts_command, read_serve_command};
 use crate::encode_words::read_encode_options;
 use crate::options::{demo_number_in, is_name, origin_in, range_in, read_options};
 use brr_search::EncodeOptions;
-use render_options::{RenderOptions, SessionOptions};
+use command_render::RenderOptions;
+use command_serve::SessionOptions;
 
 /// A command with its names.
 #[derive(Clone, Copy)]
@@ -315,6 +316,7 @@ fn read_rip(words: &[String]) -> Command<'_>
 }
 
 /// Reads the words of the command line.
+#[tactic(auto, using(std::proofs::lemmas::Grind::common_steps))]
 pub fn read_words(words: &[String]) -> Command<'_>
     ensures meaning { meaning_of result ≡ command_of (map string_bytes words.now) }
     ensures in_range { AreInRange result }

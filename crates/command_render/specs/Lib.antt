@@ -1,2 +1,4 @@
+-- the options of `render`
+pub mod Options
 -- what `render` answers
 pub mod Render

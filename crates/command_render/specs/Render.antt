@@ -11,7 +11,7 @@ use Rattle.command_runner.specs.NamedInputs.{NamedInput, Held, first, second}
 use Rattle.command_runner.specs.Stream.{pair}
 use Rattle.input_files.specs.Reading.{answer_from}
 use Rattle.input_files.specs.Inputs.{spc_input, table_input, file_in, table_in}
-use Rattle.render_options.specs.Options.{Options}
+use Rattle.command_render.specs.Options.{Options}
 use Rattle.render_files.specs.RenderFiles.{trace_of}
 use Rattle.render_files.specs.RenderReport.{sound_report}
 use Rattle.tune_opening.specs.Tune.{tune_frames, tune_records, tune_counts}

@@ -13,16 +13,16 @@ ghost use Rattle.command_runner.specs.Plan.{stream_makes};
 ghost use Rattle.render_files.specs.RenderReport.{sound_report};
 ghost use Rattle.num_fix.specs.Limits.{max_frames};
 ghost use Rattle.render_files.specs.RenderFiles.{to_come_of, report_of};
-ghost use Rattle.render_options.specs.Options.{options_of, SamplesWithinHour};
+ghost use Rattle.command_render.specs.Options.{options_of, SamplesWithinHour};
 ghost use Rattle.command_render.specs.Render.{length_with, traced_voices, muted_voices, rendered_wave, rendered_trace, rendered_counts, rendering_answer, file_answer, render_over, render_inputs};
 
+use crate::options::RenderOptions;
 use command_runner::{OutOfMemory, Refusal, StreamedPlan, carry_stream};
 use dsp_core::Dsp;
 use exit_status::Cause;
 use gauss_table::GaussTable;
 use input_files::{read_file, read_table};
 use render_files::RenderFiles;
-use render_options::RenderOptions;
 use snd_host::Host;
 use spc_form::{Length, SpcFile};
 use std::alloc::Global;

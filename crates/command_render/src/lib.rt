@@ -2,5 +2,7 @@
 #![tactic(auto)]
 
 mod command;
+mod options;
 
 pub use command::render;
+pub use options::RenderOptions;

@@ -5,7 +5,7 @@ use Rattle.wav_form.specs.Wave.{stereo_wave}
 use Rattle.cut_form.specs.declared.script.ScriptLine.{ScriptLine}
 use Rattle.cut_form.specs.Session.{opened_session, replies, played_cuts}
 use Rattle.cut_form.specs.Slices.{cut_frames}
-use Rattle.session_files.specs.Report.{report_on}
+use Rattle.session_files.specs.Replies.{report_on}
 
 -- a session on a server is one over the tune
 pub wave_of_tune : (f h : ℕ → List Frame) (p q : ℕ → List (List ℕ)) (m n : ℕ) (lines : List ScriptLine) → f ≡ h → p ≡ q → m ≡ n

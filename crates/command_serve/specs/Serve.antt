@@ -13,9 +13,9 @@ use Rattle.command_runner.specs.Stream.{pair}
 use Rattle.exit_status.specs.declared.cause.Cause.{Cause}
 use Rattle.input_files.specs.Reading.{answer_from, input_limit, input_up_to}
 use Rattle.input_files.specs.Inputs.{spc_input, table_input, file_in, table_in}
-use Rattle.render_options.specs.declared.SessionOptions.{SessionOptions}
+use Rattle.command_serve.specs.declared.options.SessionOptions.{SessionOptions}
 use Rattle.tune_opening.specs.Tune.{tune_frames, tune_pages}
-use Rattle.session_files.specs.Report.{report_on}
+use Rattle.session_files.specs.Replies.{report_on}
 use Rattle.command_serve.specs.Scripts.{script_in}
 
 -- as many pages as a memory has, or more, up to the most of a pool

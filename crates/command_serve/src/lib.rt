@@ -3,6 +3,8 @@
 #![tactic(auto)]
 
 mod command;
+mod options;
 mod script;
 
 pub use command::serve;
+pub use options::SessionOptions;

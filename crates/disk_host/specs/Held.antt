@@ -6,7 +6,7 @@ use Rattle.std.specs.Io.KnownBytes.{Keeps, ReadConsumes, WriteAppends}
 use Rattle.snd_host.specs.Host.{HostState}
 use Rattle.snd_host.specs.Calls.{Call}
 use Rattle.disk_host.specs.Texts.{Texts}
-use Rattle.disk_host.specs.Untold.{untold_state}
+use Rattle.disk_host.specs.NoContents.{state_without_contents}
 use Rattle.disk_host.specs.Created.{flags_of, known_or, known_at}
 use Rattle.disk_host.specs.declared.host.DiskHost.{DiskHost}
 
@@ -14,7 +14,7 @@ use Rattle.disk_host.specs.declared.host.DiskHost.{DiskHost}
 -- call failed; it shows no bytes and no rooms
 abbrev pub disk_state : {D F : Type 0} → DiskHost D F → HostState
 disk_state host =
-    untold_state host.log.calls (option_map (λ _. host.newest) host.input) (flags_of host.created.items) host.in_faults host.note_faults host.out_faults host.failed_last
+    state_without_contents host.log.calls (option_map (λ _. host.newest) host.input) (flags_of host.created.items) host.in_faults host.note_faults host.out_faults host.failed_last
 
 -- the disk of a host
 abbrev pub disk_of : {D F : Type 0} → DiskHost D F → D

@@ -1,7 +1,7 @@
 // The host of real files: it shows no contents, and passes on what a file knows of its bytes.
 ghost use Rattle.std.specs.Prelude.{◌≡◌, ◌≢◌, ◌<◌, ℕ, ◌≤◌, ◌∷◌, ◌++◌, length, IfOk, drop, None, Some, [], false, is_ok, slice_get, slice_set};
 ghost use Rattle.snd_host.specs.Calls.{open_call, read_call, create_call, write_call, finish_call};
-ghost use Rattle.disk_host.specs.Untold.{untold_state};
+ghost use Rattle.disk_host.specs.NoContents.{state_without_contents};
 ghost use Rattle.disk_host.specs.Created.{flags_of, known_at};
 ghost use Rattle.disk_host.specs.Held.{held_by};
 ghost use Rattle.std.specs.Io.KnownBytes.{Keeps, WriteAppends};
@@ -44,7 +44,7 @@ impl<D: Disk + Drop> DiskHost<D> {
 
     /// A host without inputs, outputs or faults, which has asked the disk of nothing.
     pub fn new(disk: D) -> Self
-        ensures state { ⟦<DiskHost<D> as Host>⟧.state result ≡ untold_state [] None [] 0 0 0 false }
+        ensures state { ⟦<DiskHost<D> as Host>⟧.state result ≡ state_without_contents [] None [] 0 0 0 false }
         ensures disk { disk_of result ≡ disk }
         ensures report { held_by D.held D.texts result 0 ≡ (D.texts disk).report }
         ensures complaint { held_by D.held D.texts result 1 ≡ (D.texts disk).complaint }

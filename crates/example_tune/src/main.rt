@@ -2,9 +2,8 @@
 #![tactic(auto)]
 
 use command_info::info;
-use command_render::render;
+use command_render::{RenderOptions, render};
 use num_fix::SAMPLE_RATE;
-use render_options::RenderOptions;
 use spc_form::{Length, SpcRefusal, read_spc};
 use std::alloc::Global;
 use std::rt::Stdout;

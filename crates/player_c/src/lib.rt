@@ -10,9 +10,9 @@ mod options;
 mod owned_player;
 mod parts;
 mod pointer;
+mod queries;
 mod status;
 mod tags;
-mod telling;
 mod threads;
 
 pub use exports::{
@@ -24,7 +24,7 @@ pub use info::{SpcwaveInfo, spcwave_inspect};
 pub use options::SpcwaveOptions;
 pub use owned_player::OwnedPlayer;
 pub use pointer::SpcwavePointer;
-pub use telling::{
+pub use queries::{
     spcwave_free_pages, spcwave_length, spcwave_position, spcwave_registers, spcwave_tag,
     spcwave_tagged, spcwave_version, spcwave_voice,
 };

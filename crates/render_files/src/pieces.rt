@@ -94,22 +94,22 @@ fn put_lines(trace: &mut FixedBuffer, records: &[Record])
     }
 }
 
-/// The rooms that a render's files are made in.
+/// The buffers that a render's files are made in.
 #[derive(Drop)]
-struct RenderRooms {
+struct RenderBuffers {
     wave: FixedBuffer,
     trace: FixedBuffer,
     report: FixedBuffer,
 }
 
-impl RenderRooms {
-    /// Empty rooms.
-    fn reserve(alloc: Global) -> Result<RenderRooms, OutOfMemory>
-        ensures wave { IfOk result (λ rooms. rooms.wave ≡ []) }
-        ensures trace { IfOk result (λ rooms. rooms.trace ≡ []) }
-        ensures report { IfOk result (λ rooms. rooms.report ≡ []) }
+impl RenderBuffers {
+    /// Empty buffers.
+    fn new(alloc: Global) -> Result<RenderBuffers, OutOfMemory>
+        ensures wave { IfOk result (λ buffers. buffers.wave ≡ []) }
+        ensures trace { IfOk result (λ buffers. buffers.trace ≡ []) }
+        ensures report { IfOk result (λ buffers. buffers.report ≡ []) }
     {
-        Ok(RenderRooms {
+        Ok(RenderBuffers {
             wave: FixedBuffer::new(alloc)?,
             trace: FixedBuffer::new(alloc)?,
             report: FixedBuffer::new(alloc)?,
@@ -135,17 +135,17 @@ impl<C: Chip> RenderFiles<C> {
         ensures trace { IfOk result (λ files. (to_come_of C.meaning files).trace ≡ trace_of is_traced (records_to_come C.meaning render)) }
         ensures report { IfOk result (λ files. report_of C.meaning files ≡ sound_report samples (counts_to_come C.meaning render)) }
     {
-        let rooms = RenderRooms::reserve(alloc)?;
+        let buffers = RenderBuffers::new(alloc)?;
         Ok(RenderFiles {
             render,
             made: 0,
             samples,
             fade,
             is_traced,
-            wave: rooms.wave,
-            trace: rooms.trace,
+            wave: buffers.wave,
+            trace: buffers.trace,
             is_done: false,
-            report: rooms.report,
+            report: buffers.report,
         })
     }
 
@@ -177,7 +177,7 @@ impl<C: Chip> RenderFiles<C> {
     }
 
     /// Writes the report, once the last piece is made.
-    fn tell(&mut self)
+    fn put_report(&mut self)
         requires { self.old.render.bus.book.counts ≡ counts_to_come C.meaning self.old.render }
         ensures { self.new ≡ record self.old { is_done = true } }
     {
@@ -224,7 +224,7 @@ impl<C: Chip> Pieces for RenderFiles<C> {
         let done = self.add_pieces();
         self.is_done = false;
         if done {
-            self.tell();
+            self.put_report();
         }
         done
     }

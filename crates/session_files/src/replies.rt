@@ -1,7 +1,7 @@
 // Replies as text, in room that was taken before.
 ghost use Rattle.std.specs.Prelude.{◌≡◌, ◌+◌, ◌≤◌, ◌++◌, length, vec_len, vec_capacity, codes};
 ghost use Rattle.cut_form.specs.Session.{mark_text, reply_text};
-ghost use Rattle.session_files.specs.Report.{reply_line, max_text_bytes, max_reply_bytes};
+ghost use Rattle.session_files.specs.Replies.{reply_line, max_text_bytes, max_reply_bytes};
 
 use cut_form::{Marked, Reply};
 use report_text::{put_count_reserved, put_reserved};

@@ -111,7 +111,7 @@ impl<C: Chip> SessionRun<C> {
     }
 
     /// Answers a line that asks what is free.
-    fn tell_free(&self) -> Reply
+    fn count_free(&self) -> Reply
         requires { CanAnswer self.now }
         ensures { Answers C.meaning C.saving lines.Free self.now self.now result }
     {
@@ -133,7 +133,7 @@ impl<C: Chip> SessionRun<C> {
             ScriptLine::Play(count) => self.play(count),
             ScriptLine::Mark => self.mark(),
             ScriptLine::Drop(sample) => self.drop_at(sample),
-            ScriptLine::Free => self.tell_free(),
+            ScriptLine::Free => self.count_free(),
         }
     }
 

@@ -231,8 +231,8 @@ module _ (command : Command) (r : Option (Refusal Cause)) (x z : HostState) (sta
     no_fault_plain = λ rooms steady end plain. no_fault_with rooms steady end (plain_is r end (ap end_without_numbers (sym is) ∙ plain));
   }
 
-  pub untold : clause.Untold command x z status
-  untold = record {
+  pub on_every_host : clause.OnEveryHost command x z status
+  on_every_host = record {
     misread = (λ same. misread.0 (end_of (Some Usage) statuses.Usage refl same), λ words. status_is _ (misread.1 words));
     unread = λ other. o.causes.no_fault_inputs (λ same. other (status_is _ same));
     unwritten = λ other. o.causes.no_fault_outputs (λ same. other (status_is _ same));

@@ -14,7 +14,7 @@ use Rattle.exit_status.specs.declared.status.Status.TheVariants as statuses
 use Rattle.exit_status.specs.Statuses.{end_without_numbers}
 use Rattle.input_files.specs.Inputs.{table_input, file_in, table_in}
 use Rattle.input_files.specs.Reading.{answer_from}
-use Rattle.render_options.specs.Options.{Options}
+use Rattle.command_render.specs.Options.{Options}
 use Rattle.command_render.specs.Render.{length_with, muted_voices, traced_voices, rendered_wave, rendered_trace, rendering_answer, file_answer, render_over, render_inputs}
 use Rattle.command_line.specs.Command.{render}
 use Rattle.spcwave.specs.Answers.{answer_by}

@@ -3,7 +3,7 @@ use Rattle.std.specs.Prelude.{◌≡◌, ℕ, ℤ, List, [], ◌∷◌, Some, Ok
 use Rattle.snd_host.specs.Calls.{Call}
 use Rattle.command_runner.specs.OutputCalls.{bytes_to}
 use Rattle.input_files.specs.Inputs.{file_in, table_in}
-use Rattle.render_options.specs.Options.{Options}
+use Rattle.command_render.specs.Options.{Options}
 use Rattle.command_render.specs.Render.{length_with, muted_voices, traced_voices, rendered_wave}
 
 -- The inputs gave an SPC file and a table of weights, and what was written to the output of the number n, the WAV file, joins to the frames of

@@ -123,7 +123,7 @@ pub record CompletesComplaint (command : Command) (old new : HostState) (status 
       length (end_line end) ≤ slice_index rooms 1 → new.faults.notes ≡ old.faults.notes))
 
 -- What holds on every host, whether it shows anything or not.
-pub record Untold (command : Command) (old new : HostState) (status : Status) : Type 0 where
+pub record OnEveryHost (command : Command) (old new : HostState) (status : Status) : Type 0 where
   -- Usage comes exactly where the words are no command.
   pub misread : (status ≡ statuses.Usage) ↔ (command ≡ usage)
   -- Every other status leaves the count of faults on inputs, or on outputs and the report, as it was: no such call failed.
@@ -157,4 +157,4 @@ pub record IsRun (command : Command) (old new : HostState) (status : Status) : T
   pub complete_outputs : CompletesOutputs command old new status
   pub complete_complaint : CompletesComplaint command old new status
   -- what holds on every host
-  pub untold : Untold command old new status
+  pub on_every_host : OnEveryHost command old new status

@@ -66,7 +66,7 @@ fn lines_of_wave(alloc: Global, wave: &[u8]) -> Result<String, Fail> {
 }
 
 /// Whether a check shows these sums, and then the batches that a render of as many samples shows.
-fn tells(checked: &[u8], lines: &[u8], played: &[u8]) -> bool {
+fn has_sums(checked: &[u8], lines: &[u8], played: &[u8]) -> bool {
     let front = b"samples 320000\n";
     match (checked.strip_prefix(front), played.strip_prefix(front)) {
         (Some(known), Some(batches)) => known.strip_prefix(lines) == Some(batches),
@@ -78,7 +78,7 @@ fn tells(checked: &[u8], lines: &[u8], played: &[u8]) -> bool {
 fn look_at_check(rt: &impl Abort, played: &Outcome, checked: &Outcome, lines: &[u8]) {
     assert!(rt; played.status() == Status::Ok && played.first().len() == 1280044);
     assert!(rt; checked.status() == Status::Ok);
-    assert!(rt; tells(checked.report(), lines, played.report()));
+    assert!(rt; has_sums(checked.report(), lines, played.report()));
 }
 
 /// The demo file of 7, rendered for ten seconds, has the sums that the check shows, and is made in the same batches.

@@ -2,7 +2,7 @@
 ghost use Rattle.std.specs.Prelude.{◌≡◌, ◌+◌, ◌++◌, ℕ, List, length};
 ghost use Rattle.snd_host.specs.Host.{HostState};
 ghost use Rattle.command_runner.specs.PlainCalls.{OnlyLastFails};
-ghost use Rattle.render_options.specs.Options.{Options};
+ghost use Rattle.command_render.specs.Options.{Options};
 ghost use Rattle.command_line.specs.Command.{Command, render};
 ghost use Rattle.exit_status.specs.declared.status.Status.{Status};
 ghost use Rattle.exit_status.specs.declared.status.Status.TheVariants as statuses;

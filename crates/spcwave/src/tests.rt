@@ -296,9 +296,9 @@ fn look_at_help(rt: &impl Abort, outcome: &Outcome, word: &str) {
     assert!(rt; outcome.status() == Status::Ok && begins, "{word}");
 }
 
-/// That it has a line for each command is seen where the command is tried by itself.
+/// `tools/checks` sees that it has the line of each command.
 #[test]
-fn help_is_told(rt: HostRuntime) -> Result<(), Fail> {
+fn both_words_print_the_help(rt: HostRuntime) -> Result<(), Fail> {
     for word in ["help", "--help"] {
         let outcome = run_words(rt.alloc(), &[word], &[])?;
         look_at_help(&rt, &outcome, word);

@@ -49,7 +49,7 @@ const REFUSED: &[(&[u8], u16, &str)] = &[
 ];
 
 #[test]
-fn the_first_wrong_line_is_told(rt: HostRuntime) -> Result<(), Fail> {
+fn the_first_wrong_line_is_reported(rt: HostRuntime) -> Result<(), Fail> {
     for (source, origin, complaint) in REFUSED {
         let outcome = assembled(rt.alloc(), source, *origin, &[])?;
         assert!(rt;

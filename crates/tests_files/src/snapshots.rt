@@ -78,7 +78,7 @@ fn bytes_that_are_missing_count_as_0(rt: HostRuntime) -> Result<(), Fail> {
 }
 
 #[test]
-fn the_first_byte_of_a_signature_that_differs_is_told(rt: HostRuntime) -> Result<(), Fail> {
+fn the_first_byte_of_a_signature_that_differs_is_reported(rt: HostRuntime) -> Result<(), Fail> {
     for (first, second) in [(26, 26), (3, 26)] {
         let changed = image(rt.alloc(), KEPT_LENGTH, &[(first, 0), (second, 0)])?;
         let wanted = Reading::Signature(first);

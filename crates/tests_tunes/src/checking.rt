@@ -12,13 +12,13 @@ fn check_failing(alloc: Global, failing: &[u32]) -> Result<Outcome, Fail> {
 }
 
 /// What an independent implementation gives of that file.
-const TOLD: &str = "samples 320000\nleft 49171252\nright -899585932\nmix 1010732692\n\
+const REPORT: &str = "samples 320000\nleft 49171252\nright -899585932\nmix 1010732692\n\
     batches 9983 register 4982 memory 4983 echo 0 full 17 events 0 end 1\n";
 
 #[test]
-fn a_check_tells_sums_and_batches(rt: HostRuntime) -> Result<(), Fail> {
+fn a_check_reports_sums_and_batches(rt: HostRuntime) -> Result<(), Fail> {
     let outcome = check_failing(rt.alloc(), &[])?;
-    assert!(rt; outcome.is_done(&[], TOLD));
+    assert!(rt; outcome.is_done(&[], REPORT));
     let failed = check_failing(rt.alloc(), &[0])?;
     assert!(rt; failed.is_cut_off(0, &[], &[], ""));
     Ok(())

@@ -1,9 +1,8 @@
 // What the tests of `render` share: renders over a host in memory, and what they have.
 ghost use Rattle.std.specs.Prelude.{◌≡◌, Some, None};
-ghost use Rattle.render_options.specs.Options.{SamplesWithinHour};
+ghost use Rattle.command_render.specs.Options.{SamplesWithinHour};
 
-use command_render::render;
-use render_options::RenderOptions;
+use command_render::{RenderOptions, render};
 use std::alloc::Global;
 use std::test::Fail;
 use test_support::{

@@ -1,13 +1,12 @@
 // Renders over a host in memory.
-ghost use Rattle.render_options.specs.Options.{SamplesWithinHour};
+ghost use Rattle.command_render.specs.Options.{SamplesWithinHour};
 
 use crate::rendering::{
     Heard, LINES, NO_BATCH, ONE_BATCH, is_rendered, no_options, render_failing, render_tune,
     samples, tune_of, with_trace,
 };
-use command_render::render;
+use command_render::{RenderOptions, render};
 use exit_status::Status;
-use render_options::RenderOptions;
 use std::alloc::Global;
 use std::test::Fail;
 use test_support::{

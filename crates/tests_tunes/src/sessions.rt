@@ -2,10 +2,10 @@
 ghost use Rattle.std.specs.Prelude.{◌≤◌};
 ghost use Rattle.page_pool.specs.Pool.{max_pages};
 ghost use Rattle.cut_form.specs.Checkpoints.{min_pages};
+ghost use Rattle.command_serve.specs.Serve.{AreOptionsInRange};
 
-use command_serve::serve;
+use command_serve::{SessionOptions, serve};
 use exit_status::Status;
-use render_options::SessionOptions;
 use std::alloc::Global;
 use std::test::Fail;
 use test_support::{
@@ -22,8 +22,7 @@ fn serve_over(
     inputs: &[(&str, &[u8])],
     options: SessionOptions,
 ) -> Result<Outcome, Fail>
-    requires enough { min_pages ≤ options.pages }
-    requires few { options.pages ≤ max_pages }
+    requires { AreOptionsInRange options }
 {
     let mut host = host_with(alloc, inputs, &[], OUTPUT_ROOM)?;
     let refusal = serve(alloc, &mut host, "SPC", "TABLE", "SCRIPT", "OUT", options);
@@ -37,8 +36,7 @@ fn served_with(
     script: &[u8],
     options: SessionOptions,
 ) -> Result<Outcome, Fail>
-    requires enough { min_pages ≤ options.pages }
-    requires few { options.pages ≤ max_pages }
+    requires { AreOptionsInRange options }
 {
     let file = file_of(alloc, FILE_LENGTH, FIVE, more)?;
     let table = straight_table(alloc)?;

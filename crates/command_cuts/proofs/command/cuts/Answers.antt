@@ -2,7 +2,7 @@ use Rattle.std.proofs.Common.{rules}
 use Rattle.command_runner.specs.Plan.{stream_makes}
 use Rattle.command_runner.proofs.Obeying.{attempts, attempts_no_usage}
 use Rattle.dsp_core.specs.DspChip.{dsp_chip, dsp_saving}
-use Rattle.cut_files.specs.CutFiles.{to_come_of, report_of}
+use Rattle.session_files.specs.CutFiles.{to_come_of, report_of}
 use Rattle.command_cuts.specs.Cuts.{cuts_over}
 use Rattle.command_cuts.proofs.command.cuts.Goals as goal
 

@@ -3,7 +3,7 @@ use Rattle.num_fix.specs.declared.Frame.{Frame}
 use Rattle.wav_form.specs.Wave.{stereo_wave}
 use Rattle.cut_form.specs.CutBook.{opened_book, cut_book}
 use Rattle.cut_form.specs.Slices.{cut_frames}
-use Rattle.cut_files.specs.CutFiles.{cuts_report}
+use Rattle.session_files.specs.CutFiles.{cuts_report}
 use Rattle.command_cuts.proofs.command.open_cuts.Goals as goal
 
 pub open-requires-clause-book : goal.open-requires-clause-book

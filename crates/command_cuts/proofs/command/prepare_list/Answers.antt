@@ -7,7 +7,7 @@ use Rattle.dsp_core.specs.DspChip.{dsp_chip, dsp_saving}
 use Rattle.exit_status.specs.declared.cause.Cause.{Cause}
 use Rattle.command_cuts.specs.Lists.{cuts_in}
 use Rattle.input_files.proofs.Readings.{reads_plan, reads_declined}
-use Rattle.cut_files.specs.CutFiles.{to_come_of, report_of}
+use Rattle.session_files.specs.CutFiles.{to_come_of, report_of}
 use Rattle.command_cuts.specs.Cuts.{list_answer}
 use Rattle.command_cuts.proofs.command.prepare_list.Goals as goal
 

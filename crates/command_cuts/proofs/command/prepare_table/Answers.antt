@@ -7,7 +7,7 @@ use Rattle.dsp_core.specs.DspChip.{dsp_chip, dsp_saving}
 use Rattle.exit_status.specs.declared.cause.Cause.{Cause}
 use Rattle.input_files.specs.Inputs.{table_in}
 use Rattle.input_files.proofs.Readings.{reads_then, reads_declined_before}
-use Rattle.cut_files.specs.CutFiles.{to_come_of, report_of}
+use Rattle.session_files.specs.CutFiles.{to_come_of, report_of}
 use Rattle.command_cuts.specs.Cuts.{table_answer}
 use Rattle.command_cuts.proofs.command.prepare_table.Goals as goal
 

@@ -1,7 +1,7 @@
 use Rattle.std.proofs.Common.{◌≡◌, ◌∙◌, sym, ap, ◌-◌, Option, Some, None, length, take, drop, map, string_bytes, Global}
-use Rattle.render_options.specs.Options.{Options}
+use Rattle.command_render.specs.Options.{Options}
 use Rattle.command_line.specs.Options.{options_with, options_from}
-use Rattle.render_options.specs.Options.{options_of}
+use Rattle.command_render.specs.Options.{options_of}
 use Rattle.command_line.proofs.OptionWords.{next_options}
 use Rattle.command_line.proofs.options.read_options.Goals as goal
 

@@ -1,6 +1,6 @@
 use Rattle.std.proofs.Common.{◌≡◌, Some, length, map, string_bytes}
 use Rattle.command_line.specs.Options.{options_with, options_from, options_in}
-use Rattle.render_options.specs.Options.{options_of, SamplesWithinHour}
+use Rattle.command_render.specs.Options.{options_of, SamplesWithinHour}
 use Rattle.command_line.proofs.options.read_options.Given as goal
 
 -- the options so far, and those that are left

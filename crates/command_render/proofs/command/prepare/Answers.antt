@@ -8,7 +8,7 @@ use Rattle.exit_status.specs.declared.cause.Cause.{Cause}
 use Rattle.input_files.specs.Inputs.{file_in}
 use Rattle.input_files.proofs.Readings.{reads_then, reads_declined_before}
 use Rattle.render_files.specs.RenderFiles.{to_come_of, report_of}
-use Rattle.render_options.specs.Options.{options_of}
+use Rattle.command_render.specs.Options.{options_of}
 use Rattle.command_render.specs.Render.{file_answer}
 use Rattle.command_render.proofs.command.prepare.Goals as goal
 

@@ -5,7 +5,7 @@ use Rattle.command_runner.proofs.Obeying.{attempts, attempts_no_usage, carries_s
 use Rattle.command_render.specs.Render.{render_over}
 use Rattle.render_files.specs.RenderFiles.{to_come_of, report_of}
 use Rattle.dsp_core.specs.DspChip.{dsp_chip}
-use Rattle.render_options.specs.Options.{options_of}
+use Rattle.command_render.specs.Options.{options_of}
 use Rattle.command_render.proofs.command.render.Goals as goal
 
 pub returns-clause-attempts : goal.returns-clause-attempts

@@ -20,5 +20,5 @@ returns g c =
       complete_inputs = clauses.completes_inputs _ _ _ _ _ c.status_for.ensures o attempt.misread;
       complete_outputs = clauses.completes_outputs _ _ _ _ _ c.status_for.ensures o attempt.misread;
       complete_complaint = clauses.completes_complaint _ _ _ _ _ c.status_for.ensures o attempt.misread;
-      untold = clauses.untold _ _ _ _ _ c.status_for.ensures o attempt.misread;
+      on_every_host = clauses.on_every_host _ _ _ _ _ c.status_for.ensures o attempt.misread;
     }

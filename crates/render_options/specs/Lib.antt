@@ -1,2 +1,0 @@
--- the options of a render
-pub mod Options
