@@ -10,5 +10,4 @@ pub fn a_player_may_go_to_another_thread<C: Chip + Send>(_player: &Player<C>)
 where
     C::Saved: Send,
     ensures { IsSend (the_row C.row C.State.row C.Saved.row C.Chip) }
-{
-}
+{}

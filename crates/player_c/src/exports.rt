@@ -1,4 +1,4 @@
-// What C calls. No call but `spcwave_open` takes memory.
+// What C calls. No call but `spcwave_open` takes memory: of `spcwave_close`, which is lent an allocator too, that is tested.
 ghost use Rattle.std.specs.Prelude.{◌≡◌, ◌≢◌, ◌+◌, ◌-◌, ◌++◌, ◌⊎◌, ◌&&◌, true, nat_le, min, map, Some, None, Err, IfErr, IfOk, IfSome, length, drop};
 ghost use Rattle.num_fix.specs.Limits.{max_frames};
 ghost use Rattle.cut_form.specs.Slices.{slice_of};

@@ -7,5 +7,4 @@ use crate::handle::SpcwavePlayer;
 /// A handle may go to another thread, with the player that it owns: this is proved of all parts of its type.
 pub fn a_handle_may_go_to_another_thread(_handle: &SpcwavePlayer)
     ensures { IsSend the_row }
-{
-}
+{}
