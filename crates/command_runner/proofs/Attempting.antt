@@ -7,6 +7,7 @@ use Rattle.snd_host.specs.Host.{HostState}
 use Rattle.snd_host.specs.Follows.{Since, IsCut, Follows}
 use Rattle.snd_host.specs.Takes.{Takes}
 use Rattle.snd_host.specs.declared.host.Failed.{Failed}
+use Rattle.snd_host.proofs.CallsInOrder.{since_none, since_then}
 use Rattle.snd_host.proofs.Taking.{ends_short}
 use Rattle.command_runner.specs.InOrder.{Then}
 use Rattle.command_runner.specs.NamedInputs.{NamedInput, Held, held_of, TakesInOrder}
@@ -16,7 +17,7 @@ use Rattle.command_runner.specs.OutputCalls.{Order, DeliversAs}
 use Rattle.command_runner.specs.RunCalls.{EndsRefused, DeliversAnswer, EndsBy, AttemptsBy}
 use Rattle.command_runner.specs.declared.refusals.Refusal.{Refusal}
 use Rattle.command_runner.specs.declared.refusals.Refusal.TheVariants.{Usage, ReadFault, WriteFault, OutOfMemory, Input}
-use Rattle.command_runner.proofs.Sequences.{Can, then_of, can_then, cut_second, cut_as, begun_second, begun_whole, since_then}
+use Rattle.command_runner.proofs.Sequences.{Can, then_of, can_then, cut_second, cut_as, begun_second, begun_whole}
 
 -- An input can be read, as one that holds no bytes.
 pub can_take : (name : List ℕ) (limit : ℕ) → Can (Takes name limit [])
@@ -120,14 +121,14 @@ attempts_by_delivery {C = C} order makes answer inputs plan x y z same p (Err e)
 
 -- words that say no command
 pub attempts_by_nothing : {C : Type 0} (order : Order) (x : HostState) → AttemptsBy {C = C} order (λ (held : Held). refused Usage) [] (Some Usage) x x
-attempts_by_nothing order x = record { given = []; taken = []; made = []; since = refl; ends = ((refl, refl), refl, refl) }
+attempts_by_nothing order x = record { given = []; taken = []; made = []; since = since_none x; ends = ((refl, refl), refl, refl) }
 
 -- a plan that stands on no input
 pub prepares_by_plan : {P C : Type 0} (makes : P → Delivery) (answer : Answer C) (x : HostState) (prepared : Result P (Refusal C)) → Plans makes answer prepared → PreparesBy makes (λ (held : Held). answer) [] x x prepared
-prepares_by_plan makes answer x (Ok plan) p = record { given = []; taken = []; since = refl; ends = ((refl, refl), p.ok) }
+prepares_by_plan makes answer x (Ok plan) p = record { given = []; taken = []; since = since_none x; ends = ((refl, refl), p.ok) }
 prepares_by_plan {P = P} {C = C} makes answer x (Err why) p = record {
   given = [];
   taken = [];
-  since = refl;
+  since = since_none x;
   ends = refused_whole (TakesInOrder [] []) (answer ≡ refused why) why [] (refl, refl) (λ is. p.no_read (ap (λ (r : Refusal C). Err r) is)) p.err;
 }

@@ -4,13 +4,14 @@ use Rattle.std.specs.Option.{option_map}
 use Rattle.std.proofs.lemmas.List.{append_assoc, append-nil}
 use Rattle.snd_host.specs.Calls.{Call, created, not_created, finished, not_finished, finish_call}
 use Rattle.snd_host.specs.Host.{HostState, Output}
-use Rattle.snd_host.specs.Follows.{Since, Follows, AreWrites}
+use Rattle.snd_host.specs.Follows.{Makes, Since, Follows, AreWrites}
 use Rattle.snd_host.specs.declared.host.Failed.{Failed}
 use Rattle.snd_host.specs.declared.host.OutFile.{OutFile}
+use Rattle.snd_host.proofs.CallsInOrder.{since_one, since_then}
 use Rattle.command_runner.specs.InOrder.{Then}
 use Rattle.command_runner.specs.OutputCalls.{Target, AreWoven, both, numbered, creations, endings, AreCreations, AreEndings, MakesAtOnce, MakesInTurn, MakesAs, DeliversAs, Order, at_once}
 use Rattle.command_runner.specs.Stream.{pair, IsTrace, IsOpenAfter}
-use Rattle.command_runner.proofs.Sequences.{Can, can_then, can_write, cut_first, cut_second, cut_as, since_then, follows_then, follows_failed, follows_as, follows_one, follows_not}
+use Rattle.command_runner.proofs.Sequences.{Can, can_then, can_write, cut_first, cut_second, cut_as, follows_then, follows_failed, follows_as, follows_one, follows_not}
 use Rattle.command_runner.proofs.Woven.{Apart, can_weave, woven_then, pumped}
 
 -- the number of the trace is another than that of the sound file
@@ -20,46 +21,50 @@ apart ended n (Some file) after = λ same. let above : n < file.0 = after.0 in a
 
 -- How outputs are created.
 
-pub first_not_created : {T : Type 0} (wave : List ℕ) (trace : Option (List ℕ)) (n : ℕ) (a b : HostState) (f : Failed) → b.calls ≡ not_created wave ∷ a.calls → Follows {T = T} {E = Failed} (AreCreations n (pair wave trace [] [])) a b (Err f)
+created_at : (name : List ℕ) (k n : ℕ) (a b : HostState) → k ≡ n → Makes (created name k) a b → Makes (created name n) a b
+created_at name k n a b is made = subst (λ (j : ℕ). Makes (created name j) a b) is made
+
+pub first_not_created : {T : Type 0} (wave : List ℕ) (trace : Option (List ℕ)) (n : ℕ) (a b : HostState) (f : Failed) → Makes (not_created wave) a b → Follows {T = T} {E = Failed} (AreCreations n (pair wave trace [] [])) a b (Err f)
 first_not_created wave None n a b f made = follows_not (AreCreations n (pair wave None [] [])) (created wave n) [] a b f refl made
 first_not_created wave (Some trace) n a b f made = follows_not (AreCreations n (pair wave (Some trace) [] [])) (created wave n) (created trace (n + 1) ∷ []) a b f refl made
 
-pub second_not_created : {T : Type 0} (wave trace : List ℕ) (n k : ℕ) (a b c : HostState) (f : Failed) → k ≡ n → b.calls ≡ created wave k ∷ a.calls → c.calls ≡ not_created trace ∷ b.calls →
+pub second_not_created : {T : Type 0} (wave trace : List ℕ) (n k : ℕ) (a b c : HostState) (f : Failed) → k ≡ n → Makes (created wave k) a b → Makes (not_created trace) b c →
     Follows {T = T} {E = Failed} (AreCreations n (pair wave (Some trace) [] [])) a c (Err f)
 second_not_created wave trace n k a b c f is made failed = record {
   calls = created wave n ∷ not_created trace ∷ [];
-  since = failed ∙ ap (λ (l : List Call). not_created trace ∷ l) (made ∙ ap (λ (j : ℕ). created wave j ∷ a.calls) is);
+  since = since_then (created wave n ∷ []) (not_created trace ∷ []) a b c (since_one (created wave n) a b (created_at wave k n a b is made)) (since_one (not_created trace) b c failed);
   does = record { done = created wave n ∷ []; call = created trace (n + 1); rest = []; cut = refl; whole = refl };
 }
 
-pub one_created : {T : Type 0} (wave : List ℕ) (n k : ℕ) (a b : HostState) (x : T) → k ≡ n → b.calls ≡ created wave k ∷ a.calls → Follows {T = T} {E = Failed} (AreCreations n (pair wave None [] [])) a b (Ok x)
-one_created wave n k a b x is made = record { calls = created wave n ∷ []; since = made ∙ ap (λ (j : ℕ). created wave j ∷ a.calls) is; does = refl }
+pub one_created : {T : Type 0} (wave : List ℕ) (n k : ℕ) (a b : HostState) (x : T) → k ≡ n → Makes (created wave k) a b → Follows {T = T} {E = Failed} (AreCreations n (pair wave None [] [])) a b (Ok x)
+one_created wave n k a b x is made = follows_one (AreCreations n (pair wave None [] [])) (created wave n) a b x refl (created_at wave k n a b is made)
 
-pub both_created : {T : Type 0} (wave trace : List ℕ) (k m : ℕ) (a b c : HostState) (x : T) → k ≡ length a.ended + 2 → b.ended ≡ a.ended ++ false ∷ [] → m ≡ length b.ended + 2 → b.calls ≡ created wave k ∷ a.calls → c.calls ≡ created trace m ∷ b.calls →
+pub both_created : {T : Type 0} (wave trace : List ℕ) (k m : ℕ) (a b c : HostState) (x : T) → k ≡ length a.ended + 2 → b.ended ≡ a.ended ++ false ∷ [] → m ≡ length b.ended + 2 → Makes (created wave k) a b → Makes (created trace m) b c →
     Follows {T = T} {E = Failed} (AreCreations (length a.ended + 2) (pair wave (Some trace) [] [])) a c (Ok x)
 both_created wave trace k m a b c x is ended next made second =
     let longer : length b.ended ≡ length a.ended + 1 = ap (length {A = Bool}) ended ∙ length-append a.ended (false ∷ []) in
     let is_next : m ≡ length a.ended + 2 + 1 = omega (arith, next, longer) in
     record {
       calls = created wave (length a.ended + 2) ∷ created trace (length a.ended + 2 + 1) ∷ [];
-      since = second ∙ ap (λ (j : ℕ). created trace j ∷ b.calls) is_next ∙ ap (λ (l : List Call). created trace (length a.ended + 2 + 1) ∷ l) (made ∙ ap (λ (j : ℕ). created wave j ∷ a.calls) is);
+      since = since_then (created wave (length a.ended + 2) ∷ []) (created trace (length a.ended + 2 + 1) ∷ []) a b c (since_one (created wave (length a.ended + 2)) a b (created_at wave k _ a b is made))
+          (since_one (created trace (length a.ended + 2 + 1)) b c (created_at trace m _ b c is_next second));
       does = refl;
     }
 
 -- How outputs are ended.
 
-pub first_not_ended : {T : Type 0} (n m : ℕ) (a b : HostState) (f : Failed) → b.calls ≡ not_finished n ∷ a.calls → Follows {T = T} {E = Failed} (AreEndings ((n, []) ∷ (m, []) ∷ [])) a b (Err f)
+pub first_not_ended : {T : Type 0} (n m : ℕ) (a b : HostState) (f : Failed) → Makes (not_finished n) a b → Follows {T = T} {E = Failed} (AreEndings ((n, []) ∷ (m, []) ∷ [])) a b (Err f)
 first_not_ended n m a b f made = follows_not (AreEndings ((n, []) ∷ (m, []) ∷ [])) (finished n) (finished m ∷ []) a b f refl made
 
-pub both_ended : (n m : ℕ) (a b c : HostState) (result : Result (Unit {0}) Failed) → b.calls ≡ finished n ∷ a.calls → c.calls ≡ finish_call m result ∷ b.calls → Follows (AreEndings ((n, []) ∷ (m, []) ∷ [])) a c result
-both_ended n m a b c (Ok x) made second = record { calls = finished n ∷ finished m ∷ []; since = second ∙ ap (λ (l : List Call). finished m ∷ l) made; does = refl }
+pub both_ended : (n m : ℕ) (a b c : HostState) (result : Result (Unit {0}) Failed) → Makes (finished n) a b → Makes (finish_call m result) b c → Follows (AreEndings ((n, []) ∷ (m, []) ∷ [])) a c result
+both_ended n m a b c (Ok x) made second = record { calls = finished n ∷ finished m ∷ []; since = since_then (finished n ∷ []) (finished m ∷ []) a b c (since_one (finished n) a b made) (since_one (finished m) b c second); does = refl }
 both_ended n m a b c (Err e) made second = record {
   calls = finished n ∷ not_finished m ∷ [];
-  since = second ∙ ap (λ (l : List Call). not_finished m ∷ l) made;
+  since = since_then (finished n ∷ []) (not_finished m ∷ []) a b c (since_one (finished n) a b made) (since_one (not_finished m) b c second);
   does = record { done = finished n ∷ []; call = finished m; rest = []; cut = refl; whole = refl };
 }
 
-pub one_ended : (n : ℕ) (a b : HostState) (result : Result (Unit {0}) Failed) → b.calls ≡ finish_call n result ∷ a.calls → Follows (AreEndings ((n, []) ∷ [])) a b result
+pub one_ended : (n : ℕ) (a b : HostState) (result : Result (Unit {0}) Failed) → Makes (finish_call n result) a b → Follows (AreEndings ((n, []) ∷ [])) a b result
 one_ended n a b (Ok x) made = follows_one (AreEndings ((n, []) ∷ [])) (finished n) a b x refl made
 one_ended n a b (Err e) made = follows_not (AreEndings ((n, []) ∷ [])) (finished n) [] a b e refl made
 

@@ -3,13 +3,10 @@ use Rattle.std.proofs.Common.{◌≡◌, ℕ, List, [], ◌∷◌, ◌++◌, Res
 use Rattle.std.proofs.lemmas.List.{append_assoc, append-nil}
 use Rattle.snd_host.specs.Calls.{Call, wrote}
 use Rattle.snd_host.specs.Host.{HostState}
-use Rattle.snd_host.specs.Follows.{pushed, failure_of, Since, IsCut, IsBegun, Follows, AreWrites}
+use Rattle.snd_host.specs.Follows.{failure_of, Makes, IsCut, IsBegun, Follows, AreWrites}
 use Rattle.snd_host.specs.declared.host.Failed.{Failed}
-use Rattle.snd_host.proofs.CallsInOrder.{pushed_more, no_writes, one_write, writes_then}
+use Rattle.snd_host.proofs.CallsInOrder.{since_one, since_then, no_writes, one_write, writes_then}
 use Rattle.command_runner.specs.InOrder.{Then}
-
-pub since_then : (xs ys : List Call) (a b c : HostState) → Since xs a b → Since ys b c → Since (xs ++ ys) a c
-since_then xs ys a b c first second = second ∙ ap (pushed ys) first ∙ sym (pushed_more xs ys a.calls)
 
 -- A thing that calls can do.
 abbrev pub Can : (List Call → Type 0) → Type 0
@@ -84,13 +81,13 @@ follows_as A B a b (Ok x) h one = record { calls = one.calls; since = one.since;
 follows_as A B a b (Err e) h one = record { calls = one.calls; since = one.since; does = cut_as A B one.calls h one.does }
 
 -- one call
-pub follows_one : {T : Type 0} (A : List Call → Type 0) (call : Call) (a b : HostState) (x : T) → A (call ∷ []) → b.calls ≡ call ∷ a.calls → Follows {T = T} {E = Failed} A a b (Ok x)
-follows_one A call a b x does made = record { calls = call ∷ []; since = made; does = does }
+pub follows_one : {T : Type 0} (A : List Call → Type 0) (call : Call) (a b : HostState) (x : T) → A (call ∷ []) → Makes call a b → Follows {T = T} {E = Failed} A a b (Ok x)
+follows_one A call a b x does made = record { calls = call ∷ []; since = since_one call a b made; does = does }
 
-pub follows_not : {T : Type 0} (A : List Call → Type 0) (call : Call) (rest : List Call) (a b : HostState) (e : Failed) → A (call ∷ rest) → b.calls ≡ failure_of call ∷ a.calls → Follows {T = T} {E = Failed} A a b (Err e)
+pub follows_not : {T : Type 0} (A : List Call → Type 0) (call : Call) (rest : List Call) (a b : HostState) (e : Failed) → A (call ∷ rest) → Makes (failure_of call) a b → Follows {T = T} {E = Failed} A a b (Err e)
 follows_not A call rest a b e does made = record {
   calls = failure_of call ∷ [];
-  since = made;
+  since = since_one (failure_of call) a b made;
   does = record { done = []; call = call; rest = rest; cut = refl; whole = does };
 }
 

@@ -5,7 +5,7 @@ use Rattle.snd_host.specs.Host.{HostState, Faults, HasCause, CountsWrite, Writes
 use Rattle.snd_host.proofs.Writes.{wrote_then, wrote_nothing, counts_ok, index-rooms_less, rose}
 use Rattle.snd_host.specs.Follows.{AreWrites, Follows}
 use Rattle.snd_host.specs.declared.host.Failed.{Failed}
-use Rattle.snd_host.proofs.CallsInOrder.{no_writes}
+use Rattle.snd_host.proofs.CallsInOrder.{since_none, no_writes}
 use Rattle.command_runner.specs.InOrder.{Then}
 use Rattle.command_runner.specs.Conduct.{WritesComplaint, WritesLine}
 use Rattle.command_runner.proofs.Places.{prefix_after}
@@ -107,5 +107,5 @@ silent a = record {
   wrote = wrote_nothing 1 a;
   outputs = refl;
   last = refl;
-  calls = record { note = []; since = refl; noted = inl (no_writes 1) };
+  calls = record { note = []; since = since_none a; noted = inl (no_writes 1) };
 }

@@ -17,7 +17,8 @@ use Rattle.command_runner.specs.declared.refusals.Refusal.TheVariants.{Usage, Re
 use Rattle.std.proofs.lemmas.List.{append-nil}
 use Rattle.command_runner.proofs.Attempting.{can_take_after, refused_as, refused_second, refused_whole, prepares_by_plan}
 use Rattle.command_runner.proofs.Obeying.{prepared_is_settled}
-use Rattle.command_runner.proofs.Sequences.{then_of, cut_first, begun_first, since_then}
+use Rattle.command_runner.proofs.Sequences.{then_of, cut_first, begun_first}
+use Rattle.snd_host.proofs.CallsInOrder.{since_then}
 use Rattle.input_files.specs.Reading.{bytes_in, value_from, refused_by, answer_from, Declines, Accepts, Reads, ReadsBy}
 
 -- what was refused by itself is refused for the command

@@ -3,13 +3,13 @@ use Rattle.std.proofs.Common.{◌≡◌, ◌≢◌, ◌⊎◌, inl, inr, ℕ, ze
 use Rattle.std.specs.Prelude.{Vec}
 use Rattle.std.specs.List.{AllByRecursion}
 use Rattle.std.specs.declared.alloc.Global.{Global}
-use Rattle.std.proofs.lemmas.List.{append_assoc, append-nil, take-append-le}
+use Rattle.std.proofs.lemmas.List.{append_assoc, append-nil, take-append-le, length-append}
 use Rattle.snd_host.specs.Calls.{Call, opened, not_opened, read, not_read, created, not_created, wrote, not_written, finished, not_finished}
 use Rattle.snd_host.specs.Host.{HostState}
-use Rattle.snd_host.specs.Follows.{pushed}
+use Rattle.snd_host.specs.Follows.{Makes, Since}
 use Rattle.snd_host.specs.Takes.{GivesSome, bytes_read, AreEnded, ReadsWhole}
 use Rattle.snd_host.specs.declared.calls.ReadRefusal.TheVariants.{Failed, TooLong, OutOfMemory}
-use Rattle.snd_host.proofs.CallsInOrder.{since_more}
+use Rattle.snd_host.proofs.CallsInOrder.{since_one, since_more}
 
 pub either : (n limit : ℕ) → (n ≤ limit) ⊎ (limit < n)
 either zero limit = inl (omega arith)
@@ -52,10 +52,10 @@ joined_more file xs room so_far bytes joined = more xs ∙ ap (λ (l : List ℕ)
     more (finished n ∷ xs) = more xs
     more (not_finished n ∷ xs) = more xs
 
-pub open_failed : (name : List ℕ) (limit : ℕ) (a b : HostState) → b.calls ≡ not_opened name ∷ a.calls → ReadsWhole name limit a b (Err Failed)
+pub open_failed : (name : List ℕ) (limit : ℕ) (a b : HostState) → Makes (not_opened name) a b → ReadsWhole name limit a b (Err Failed)
 open_failed name limit a b made = record {
   calls = not_opened name ∷ [];
-  since = made;
+  since = since_one (not_opened name) a b made;
   comes = (
     [],
     record {
@@ -68,12 +68,12 @@ open_failed name limit a b made = record {
   );
 }
 
-module _ (name : List ℕ) (limit file : ℕ) (reads : List Call) (bytes : List ℕ) (a : HostState) (between : List Call)
-    (since : between ≡ pushed (opened name file ∷ reads) a.calls) (each : AllByRecursion (GivesSome file) reads) (joined : bytes_read reads ≡ bytes) where
-  pub read_failed : (c : HostState) (room : ℕ) → 0 < room → length bytes ≤ limit → c.calls ≡ not_read file room ∷ between → ReadsWhole name limit a c (Err Failed)
+module _ (name : List ℕ) (limit file : ℕ) (reads : List Call) (bytes : List ℕ) (a b : HostState)
+    (since : Since (opened name file ∷ reads) a b) (each : AllByRecursion (GivesSome file) reads) (joined : bytes_read reads ≡ bytes) where
+  pub read_failed : (c : HostState) (room : ℕ) → 0 < room → length bytes ≤ limit → Makes (not_read file room) b c → ReadsWhole name limit a c (Err Failed)
   read_failed c room some short made = record {
     calls = (opened name file ∷ reads) ++ not_read file room ∷ [];
-    since = since_more (opened name file ∷ reads) (not_read file room) a.calls between c.calls since made;
+    since = since_more (opened name file ∷ reads) (not_read file room) a b c since made;
     comes = (
       bytes,
       record {
@@ -86,10 +86,10 @@ module _ (name : List ℕ) (limit file : ℕ) (reads : List Call) (bytes : List 
     );
   }
 
-  pub read_ended : (c : HostState) (room : ℕ) (end : List ℕ) (items : Vec ℕ Global) → items.items ≡ bytes → length bytes ≤ limit → 0 < room → end ≡ [] → c.calls ≡ read file room end ∷ between → ReadsWhole name limit a c (Ok items)
+  pub read_ended : (c : HostState) (room : ℕ) (end : List ℕ) (items : Vec ℕ Global) → items.items ≡ bytes → length bytes ≤ limit → 0 < room → end ≡ [] → Makes (read file room end) b c → ReadsWhole name limit a c (Ok items)
   read_ended c room end items are short some none made = record {
     calls = (opened name file ∷ reads) ++ read file room [] ∷ [];
-    since = since_more (opened name file ∷ reads) (read file room []) a.calls between c.calls since (made ∙ ap (λ (l : List ℕ). read file room l ∷ between) none);
+    since = since_more (opened name file ∷ reads) (read file room []) a b c since (subst (λ (l : List ℕ). Makes (read file room l) b c) none made);
     comes = record {
       file = file;
       reads = reads;
@@ -102,19 +102,19 @@ module _ (name : List ℕ) (limit file : ℕ) (reads : List Call) (bytes : List 
     };
   }
 
-  pub too_long : (c : HostState) → limit < length bytes → length bytes ≤ limit + 1 → c.calls ≡ between → ReadsWhole name limit a c (Err TooLong)
-  too_long c over within same = record {
+  pub too_long : limit < length bytes → length bytes ≤ limit + 1 → ReadsWhole name limit a b (Err TooLong)
+  too_long over within = record {
     calls = opened name file ∷ reads;
-    since = same ∙ since;
+    since = since;
     comes = (bytes, record { file = file; reads = reads; end = []; split = sym (append-nil _); each = each; joined = joined; within = within; ends = ends_long file limit bytes over }, over);
   }
 
-  pub no_memory : (c : HostState) (room : ℕ) (more : List ℕ) → more ≢ [] → length (bytes ++ more) ≤ limit + 1 → c.calls ≡ read file room more ∷ between → ReadsWhole name limit a c (Err OutOfMemory)
+  pub no_memory : (c : HostState) (room : ℕ) (more : List ℕ) → more ≢ [] → length (bytes ++ more) ≤ limit + 1 → Makes (read file room more) b c → ReadsWhole name limit a c (Err OutOfMemory)
   no_memory c room more some within made =
       let last = can_end file limit (bytes ++ more) in
       record {
         calls = (opened name file ∷ reads) ++ read file room more ∷ [];
-        since = since_more (opened name file ∷ reads) (read file room more) a.calls between c.calls since made;
+        since = since_more (opened name file ∷ reads) (read file room more) a b c since made;
         comes = (
           bytes ++ more,
           record {
@@ -133,3 +133,6 @@ length_taken xs n within = omega (arith, length-take n xs)
 
 pub same_front : (xs ys : List ℕ) (n : ℕ) → n ≤ length xs → take n xs ≡ take n (xs ++ ys)
 same_front xs ys n within = sym (take-append-le n xs ys within)
+
+pub length_front : (xs ys : List ℕ) (n : ℕ) → n ≤ length xs → length (take n (xs ++ ys)) ≡ n
+length_front xs ys n within = omega (arith, length-take n (xs ++ ys), length-append xs ys)

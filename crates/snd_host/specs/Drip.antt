@@ -8,6 +8,6 @@ use Rattle.snd_host.specs.declared.drip.DripHost.{DripHost}
 abbrev pub inside : DripHost → MemHost
 inside host = host.host
 
--- It is at a moment what the host inside is, but for its calls: those are the ones that were made of it.
+-- It is at a moment what the host inside is, but for its calls: of those that were made of it, a read shows its own buffer, and a failed write its piece.
 abbrev pub drip_state : DripHost → HostState
 drip_state host = record (memory_state (inside host)) { calls = host.log.calls }

@@ -47,6 +47,13 @@ impl Log {
         Log {}
     }
 
+    /// The same calls.
+    pub(crate) fn same(&self) -> Log
+        ensures { result.calls ≡ self.now.calls }
+    {
+        Log {}
+    }
+
     /// Adds a call.
     pub fn note(&mut self, noted: Noted<'_>)
         ensures { self.new.calls ≡ call_of noted.entry ∷ self.old.calls }

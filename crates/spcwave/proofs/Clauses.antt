@@ -9,7 +9,7 @@ use Rattle.command_runner.specs.Delivery.{all_ended}
 use Rattle.command_runner.specs.Leaves.{Leaves, LeavesNothing, LeavesAll, Complains}
 use Rattle.command_runner.specs.declared.refusals.Refusal.{Refusal}
 use Rattle.command_runner.specs.declared.refusals.Refusal.TheVariants.{Usage, ReadFault, WriteFault, OutOfMemory, Input}
-use Rattle.command_runner.proofs.Sequences.{since_then}
+use Rattle.snd_host.proofs.CallsInOrder.{since_then}
 use Rattle.command_runner.proofs.Making.{at_once_complained, in_turn_complained}
 use Rattle.command_runner.proofs.Leaving.{leaves, complains, reports_last, reports_behind_ended}
 use Rattle.exit_status.specs.declared.cause.Cause.{Cause}

@@ -1,4 +1,4 @@
-use Rattle.std.proofs.Common.{◌≡◌, ◌∙◌, sym, ap, subst, List, [], ◌∷◌, ◌++◌, ◌+◌, length, map, arith, append_assoc}
+use Rattle.std.proofs.Common.{rules, ◌≡◌, ◌∙◌, sym, ap, subst, List, [], ◌∷◌, ◌++◌, ◌+◌, length, map, arith, append_assoc}
 use Rattle.std.proofs.lemmas.Grind.{common_steps}
 use Rattle.std.specs.Vec.Iter.{into_iter_items}
 use Rattle.std.proofs.lemmas.List.{map-append}
@@ -11,8 +11,11 @@ use Rattle.command_runner.proofs.Making.{in_turn_done, in_turn_then}
 use Rattle.command_runner.specs.OutputCalls.{MakesInTurn}
 use Rattle.command_runner.proofs.Listing.{next_place}
 use Rattle.command_runner.proofs.OutputsMade.{in_turn_more, in_turn_one as in_turn_of_one, in_turn_stopped}
-use Rattle.command_runner.proofs.Sequences.{since_then}
+use Rattle.snd_host.proofs.CallsInOrder.{since_none, since_then}
 use Rattle.command_runner.proofs.lists.fill_all.Goals as goal
+
+pub loop-output-init : goal.loop-output-init
+loop-output-init g c = record { split = search rules; count = search rules; are_done = search rules; calls = []; since = since_none _; makes = search rules }
 
 pub loop-output-preserved : goal.loop-output-preserved
 loop-output-preserved g c =

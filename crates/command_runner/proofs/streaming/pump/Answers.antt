@@ -1,6 +1,7 @@
 use Rattle.std.proofs.Common.{[], ◌++◌, ◌∙◌, ap, sym, refl, List, ℕ, Ok}
 use Rattle.std.proofs.lemmas.List.{append_assoc}
 use Rattle.std.proofs.lemmas.Result.{err_from_is_err_and}
+use Rattle.snd_host.proofs.CallsInOrder.{since_none}
 use Rattle.command_runner.proofs.Streams.{pumps_first, pumps_next, pumps_failed, pumps_done}
 use Rattle.command_runner.proofs.OutputsMade.{apart}
 use Rattle.command_runner.proofs.Woven.{no_writes_to, pumped, pump_failed, pump_done}
@@ -13,7 +14,7 @@ pieces-init g c = record {
   calls = [];
   xs = [];
   ys = [];
-  since = refl;
+  since = since_none _;
   woven = no_writes_to c.args.targets.wave.0 _;
   wave = refl;
   trace = refl;
