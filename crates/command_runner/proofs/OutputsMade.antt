@@ -1,8 +1,9 @@
 -- The calls that make outputs, step by step.
-use Rattle.std.proofs.Common.{◌≡◌, ℕ, ◌+◌, ◌<◌, Bool, false, List, [], ◌∷◌, ◌++◌, length, Option, Some, None, Result, Ok, Err, refl, sym, ap, ◌∙◌, subst, arith, length-append}
+use Rattle.std.proofs.Common.{◌≡◌, ℕ, ◌+◌, ◌<◌, Bool, List, [], ◌∷◌, ◌++◌, length, Option, Some, None, Result, Ok, Err, refl, sym, ap, ◌∙◌, subst, arith}
 use Rattle.std.specs.Option.{option_map}
 use Rattle.std.proofs.lemmas.List.{append_assoc, append-nil}
 use Rattle.snd_host.specs.Calls.{Call, created, not_created, finished, not_finished, finish_call}
+use Rattle.snd_host.specs.History.{ended_of}
 use Rattle.snd_host.specs.Host.{HostState, Output}
 use Rattle.snd_host.specs.Follows.{Makes, Since, Follows, AreWrites}
 use Rattle.snd_host.specs.declared.host.Failed.{Failed}
@@ -11,6 +12,7 @@ use Rattle.snd_host.proofs.CallsInOrder.{since_one, since_then}
 use Rattle.command_runner.specs.InOrder.{Then}
 use Rattle.command_runner.specs.OutputCalls.{Target, AreWoven, both, numbered, creations, endings, AreCreations, AreEndings, MakesAtOnce, MakesInTurn, MakesAs, DeliversAs, Order, at_once}
 use Rattle.command_runner.specs.Stream.{pair, IsTrace, IsOpenAfter}
+use Rattle.command_runner.proofs.Flags.{one_more}
 use Rattle.command_runner.proofs.Sequences.{Can, can_then, can_write, cut_first, cut_second, cut_as, follows_then, follows_failed, follows_as, follows_one, follows_not}
 use Rattle.command_runner.proofs.Woven.{Apart, can_weave, woven_then, pumped}
 
@@ -39,15 +41,17 @@ second_not_created wave trace n k a b c f is made failed = record {
 pub one_created : {T : Type 0} (wave : List ℕ) (n k : ℕ) (a b : HostState) (x : T) → k ≡ n → Makes (created wave k) a b → Follows {T = T} {E = Failed} (AreCreations n (pair wave None [] [])) a b (Ok x)
 one_created wave n k a b x is made = follows_one (AreCreations n (pair wave None [] [])) (created wave n) a b x refl (created_at wave k n a b is made)
 
-pub both_created : {T : Type 0} (wave trace : List ℕ) (k m : ℕ) (a b c : HostState) (x : T) → k ≡ length a.ended + 2 → b.ended ≡ a.ended ++ false ∷ [] → m ≡ length b.ended + 2 → Makes (created wave k) a b → Makes (created trace m) b c →
-    Follows {T = T} {E = Failed} (AreCreations (length a.ended + 2) (pair wave (Some trace) [] [])) a c (Ok x)
-both_created wave trace k m a b c x is ended next made second =
-    let longer : length b.ended ≡ length a.ended + 1 = ap (length {A = Bool}) ended ∙ length-append a.ended (false ∷ []) in
-    let is_next : m ≡ length a.ended + 2 + 1 = omega (arith, next, longer) in
+pub second_number : (name : List ℕ) (k m : ℕ) (a b : HostState) → Makes (created name k) a b → m ≡ length (ended_of b.calls) + 2 → m ≡ length (ended_of a.calls) + 2 + 1
+second_number name k m a b made next = omega (arith, next, one_more name k a b made)
+
+pub both_created : {T : Type 0} (wave trace : List ℕ) (k m : ℕ) (a b c : HostState) (x : T) → k ≡ length (ended_of a.calls) + 2 → m ≡ length (ended_of b.calls) + 2 → Makes (created wave k) a b → Makes (created trace m) b c →
+    Follows {T = T} {E = Failed} (AreCreations (length (ended_of a.calls) + 2) (pair wave (Some trace) [] [])) a c (Ok x)
+both_created wave trace k m a b c x is next made second =
+    let n = length (ended_of a.calls) + 2 in
     record {
-      calls = created wave (length a.ended + 2) ∷ created trace (length a.ended + 2 + 1) ∷ [];
-      since = since_then (created wave (length a.ended + 2) ∷ []) (created trace (length a.ended + 2 + 1) ∷ []) a b c (since_one (created wave (length a.ended + 2)) a b (created_at wave k _ a b is made))
-          (since_one (created trace (length a.ended + 2 + 1)) b c (created_at trace m _ b c is_next second));
+      calls = created wave n ∷ created trace (n + 1) ∷ [];
+      since = since_then (created wave n ∷ []) (created trace (n + 1) ∷ []) a b c (since_one (created wave n) a b (created_at wave k _ a b is made))
+          (since_one (created trace (n + 1)) b c (created_at trace m _ b c (second_number wave k m a b made next) second));
       does = refl;
     }
 

@@ -16,10 +16,10 @@ abbrev pub Apart : ℕ → Option ℕ → Type 0
 Apart n None = Unit {0}
 Apart n (Some m) = n ≢ m
 
-same_number : (n : ℕ) → (n == n) ≡ true
+pub same_number : (n : ℕ) → (n == n) ≡ true
 same_number n = grind (arith)
 
-other_number : (n m : ℕ) → n ≢ m → (n == m) ≡ false
+pub other_number : (n m : ℕ) → n ≢ m → (n == m) ≡ false
 other_number n m other = grind (arith)
 
 -- What holds of each write to an output holds of such a call.
@@ -34,6 +34,19 @@ write_is file P all (not_created name) h = absurd h
 write_is file P all (not_written n piece) h = absurd h
 write_is file P all (finished n) h = absurd h
 write_is file P all (not_finished n) h = absurd h
+
+-- and of a write to one of several, of such a call
+pub write_to_is : (targets : List Target) (P : Call → Type 0) → ((file : ℕ) (bytes : List ℕ) → list_any (λ target. target.0 == file) targets ≡ true → bytes ≢ [] → P (wrote file bytes)) → (c : Call) → IsWriteTo targets c → P c
+write_to_is targets P all (wrote file bytes) h = all file bytes h.0 h.1
+write_to_is targets P all (opened name file) h = absurd h
+write_to_is targets P all (not_opened name) h = absurd h
+write_to_is targets P all (read file room bytes) h = absurd h
+write_to_is targets P all (not_read file room) h = absurd h
+write_to_is targets P all (created name file) h = absurd h
+write_to_is targets P all (not_created name) h = absurd h
+write_to_is targets P all (not_written file piece) h = absurd h
+write_to_is targets P all (finished file) h = absurd h
+write_to_is targets P all (not_finished file) h = absurd h
 
 pub each_as : (P Q : Call → Type 0) → ((c : Call) → P c → Q c) → (calls : List Call) → AllByRecursion P calls → AllByRecursion Q calls
 each_as P Q h [] each = tt

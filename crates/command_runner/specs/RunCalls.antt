@@ -1,6 +1,7 @@
 -- The calls that a command makes, by how it ends. `answer` is what it answers, by what its inputs hold, in their order.
 use Rattle.std.specs.Prelude.{◌≡◌, ◌+◌, ◌⊎◌, ℕ, List, ◌++◌, length, Option, Some, None}
 use Rattle.snd_host.specs.Calls.{Call}
+use Rattle.snd_host.specs.History.{ended_of}
 use Rattle.snd_host.specs.Host.{HostState}
 use Rattle.snd_host.specs.Follows.{Since, IsCut, IsBegun, AreWrites}
 use Rattle.command_runner.specs.Answer.{Answer, done, refused}
@@ -8,13 +9,15 @@ use Rattle.command_runner.specs.InOrder.{NoCalls}
 use Rattle.command_runner.specs.NamedInputs.{NamedInput, Held, held_of, TakesInOrder}
 use Rattle.command_runner.specs.OutputCalls.{Order, DeliversAs}
 use Rattle.command_runner.specs.declared.refusals.Refusal.{Refusal}
-use Rattle.command_runner.specs.declared.refusals.Refusal.TheVariants.{ReadFault, WriteFault, OutOfMemory}
+use Rattle.command_runner.specs.declared.refusals.Refusal.TheVariants.{ReadFault, WriteFault, OutOfMemory, Input}
 
--- How the calls for inputs end with this refusal: cut where one failed, begun where memory was wanting, or all of them were made, and then this holds.
+-- How the calls for inputs end with this refusal: cut where one failed, begun where memory was wanting, or all of them were made, and then this holds
+-- of what they gave. No other refusal comes of them.
 abbrev pub EndsRefused : {C : Type 0} → (Does : List Call → Type 0) → (Holds : Type 0) → Refusal C → (taken : List Call) → Type 0
 EndsRefused Does Holds ReadFault taken = IsCut Does taken
 EndsRefused Does Holds OutOfMemory taken = IsBegun Does taken
-EndsRefused Does Holds why taken = Does taken × Holds
+EndsRefused Does Holds (Input cause) taken = Does taken × Holds
+EndsRefused Does Holds why taken = ⊥
 
 -- The outputs of the answer are made, the first of which gets the number n, and then its report is written.
 abbrev pub DeliversAnswer : {C : Type 0} → Order → (n : ℕ) → Answer C → List Call → Type 0
@@ -41,7 +44,7 @@ pub record AttemptsBy {C : Type 0} (order : Order) (answer : Held → Answer C) 
   pub taken : List Call
   pub made : List Call
   pub since : Since (taken ++ made) old new
-  pub ends : EndsBy order answer inputs refusal (length old.ended + 2) given taken made
+  pub ends : EndsBy order answer inputs refusal (length (ended_of old.calls) + 2) given taken made
 
 -- The line of complaint is written, or a write of it fails and is the last.
 abbrev pub AreNoted : (line : List ℕ) → List Call → Type 0

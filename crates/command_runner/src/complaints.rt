@@ -1,8 +1,9 @@
 // The line of complaint.
 ghost use Rattle.std.specs.Prelude.{◌≡◌, ℕ, List, ◌++◌, Option, None, decimal};
+ghost use Rattle.snd_host.specs.Follows.{AreWrites, Follows};
 ghost use Rattle.snd_host.specs.Host.{HostState};
 ghost use Rattle.command_runner.specs.Answer.{line_of};
-ghost use Rattle.command_runner.specs.Conduct.{WritesComplaint, WritesLine};
+ghost use Rattle.command_runner.specs.RunCalls.{NotesLine};
 ghost use Rattle.command_runner.specs.declared.refusals.Refusal.{Refusal};
 
 use crate::Refusal;
@@ -18,7 +19,7 @@ pub trait Complaint: Sized {
 
     /// Writes the line of a refusal, or a prefix of it where a write fails.
     fn write_line<H: Host>(refusal: &Refusal<Self>, host: &mut H) -> Result<(), Failed>
-        ensures { WritesLine (line refusal.now) (H.state host.old) (H.state host.new) result };
+        ensures { Follows (AreWrites 1 (line refusal.now)) (H.state host.old) (H.state host.new) result };
 }
 
 /// Writes a number between two texts to the complaint, in decimal digits.
@@ -28,7 +29,7 @@ pub fn note_number<H: Host>(
     number: usize,
     tail: &[u8],
 ) -> Result<(), Failed>
-    ensures { WritesLine (head.now ++ decimal number ++ tail.now) (H.state host.old) (H.state host.new) result }
+    ensures { Follows (AreWrites 1 (head.now ++ decimal number ++ tail.now)) (H.state host.old) (H.state host.new) result }
 {
     write_all(host, COMPLAINT, head)?;
     let mut buffer = itoa::Buffer::new();
@@ -38,7 +39,7 @@ pub fn note_number<H: Host>(
 
 /// Writes the complaint of an end: the line of its refusal, or nothing where nothing was refused.
 pub fn complain<H: Host, C: Complaint + Drop>(host: &mut H, refusal: Option<Refusal<C>>)
-    ensures complained { WritesComplaint (line_of C.line refusal) (H.state host.old) (H.state host.new) }
+    ensures complained { NotesLine (line_of C.line refusal) (H.state host.old) (H.state host.new) }
     ensures silent { refusal ≡ None → H.state host.new ≡ H.state host.old }
 {
     match refusal {

@@ -1,11 +1,11 @@
 // Plans, and how they are carried out: the outputs are created, written and ended, and then the report is written.
-ghost use Rattle.std.specs.Prelude.{◌≡◌, ◌+◌, ◌<◌, length, IfOk};
+ghost use Rattle.std.specs.Prelude.{◌≡◌, ◌+◌, ◌<◌, length};
 ghost use Rattle.snd_host.specs.Follows.{Follows};
+ghost use Rattle.snd_host.specs.History.{ended_of};
 ghost use Rattle.snd_host.specs.Host.{HostState};
 ghost use Rattle.command_runner.specs.Conduct.{CarriesOut};
-ghost use Rattle.command_runner.specs.Delivery.{CanDeliver, Delivers};
-ghost use Rattle.command_runner.specs.Making.{MadeAtOnce};
-ghost use Rattle.command_runner.specs.OutputCalls.{at_once as made_at_once, DeliversAs};
+ghost use Rattle.command_runner.specs.Delivery.{CanDeliver};
+ghost use Rattle.command_runner.specs.OutputCalls.{at_once, DeliversAs};
 ghost use Rattle.command_runner.specs.Plan.{planned_outputs, plan_makes, stream_makes};
 
 use crate::pieces::NoPieces;
@@ -40,9 +40,8 @@ pub struct StreamedPlan<'a, P: Pieces + Drop> {
 /// Writes the output, if there is one, and then the report.
 fn deliver<H: Host>(host: &mut H, plan: &Plan<'_>) -> Result<(), Failed>
     requires { CanDeliver (H.state host.old) }
-    ensures delivers { Delivers (planned_outputs plan.now.output) plan.now.report.items (H.state host.old) (H.state host.new) result }
-    ensures calls { let outputs = planned_outputs plan.now.output in
-        Follows (DeliversAs made_at_once (length (H.state host.old).ended + 2) outputs plan.now.report.items) (H.state host.old) (H.state host.new) result }
+    ensures { let next = length (ended_of (H.state host.old).calls) + 2 in
+        Follows (DeliversAs at_once next (planned_outputs plan.now.output) plan.now.report.items) (H.state host.old) (H.state host.new) result }
 {
     match &plan.output {
         Some(output) => stream(
@@ -64,7 +63,7 @@ pub fn carry_out<H: Host, C: Drop>(
     prepared: Result<Plan<'_>, Refusal<C>>,
 ) -> Option<Refusal<C>>
     requires { CanDeliver (H.state host.old) }
-    ensures { CarriesOut plan_makes prepared.entry (H.state host.old) (H.state host.new) result }
+    ensures { CarriesOut at_once plan_makes prepared.entry (H.state host.old) (H.state host.new) result }
 {
     match prepared {
         Ok(plan) => match deliver(host, &plan) {
@@ -81,8 +80,7 @@ pub fn carry_stream<H: Host, P: Pieces + Drop, C: Drop>(
     prepared: Result<StreamedPlan<'_, P>, Refusal<C>>,
 ) -> Option<Refusal<C>>
     requires { CanDeliver (H.state host.old) }
-    ensures carries { CarriesOut (stream_makes P.to_come P.report) prepared.entry (H.state host.old) (H.state host.new) result }
-    ensures at_once { IfOk prepared.entry (λ plan. MadeAtOnce (stream_makes P.to_come P.report plan).outputs (H.state host.old) (H.state host.new)) }
+    ensures { CarriesOut at_once (stream_makes P.to_come P.report) prepared.entry (H.state host.old) (H.state host.new) result }
 {
     match prepared {
         Ok(plan) => {

@@ -1,13 +1,12 @@
 // Outputs of a list, which are created, written and ended one after another, and then the report.
 ghost use Rattle.std.specs.Prelude.{◌≡◌, ◌+◌, ◌<◌, [], ◌∷◌, length, map, IfOk};
 ghost use Rattle.snd_host.specs.Follows.{Follows};
+ghost use Rattle.snd_host.specs.History.{ended_of};
 ghost use Rattle.snd_host.specs.Host.{HostState};
-ghost use Rattle.command_runner.specs.Conduct.{CarriesOutInTurn};
-ghost use Rattle.command_runner.specs.Delivery.{CanDeliverAll, Delivers};
+ghost use Rattle.command_runner.specs.Conduct.{CarriesOut};
+ghost use Rattle.command_runner.specs.Delivery.{CanDeliverAll};
 ghost use Rattle.command_runner.specs.Listed.{listed_output, list_makes};
-ghost use Rattle.command_runner.specs.Making.{MadeInTurn};
-ghost use Rattle.command_runner.specs.OutputCalls.{MakesAtOnce, MakesInTurn, in_turn as made_in_turn, DeliversAs};
-ghost use Rattle.command_runner.specs.Stream.{Fills};
+ghost use Rattle.command_runner.specs.OutputCalls.{MakesAtOnce, MakesInTurn, in_turn, DeliversAs};
 
 use crate::streaming::{REPORT, fill_outputs};
 use crate::{Pieces, Refusal};
@@ -31,10 +30,8 @@ pub struct ListPlan<P: Pieces + Drop> {
 /// Creates an output, writes it and ends it.
 fn fill_one<H: Host, P: Pieces + Drop>(host: &mut H, output: ListedOutput<P>) -> Result<(), Failed>
     requires { CanDeliverAll 1 (H.state host.old) }
-    ensures fills { Fills (listed_output P.to_come output ∷ []) (H.state host.old) (H.state host.new) result }
-    ensures in_turn { MadeInTurn (H.state host.old) (H.state host.new) }
-    ensures calls { let made = listed_output P.to_come output ∷ [] in
-        Follows (MakesAtOnce (length (H.state host.old).ended + 2) made) (H.state host.old) (H.state host.new) result }
+    ensures { let made = listed_output P.to_come output ∷ [] in
+        Follows (MakesAtOnce (length (ended_of (H.state host.old).calls) + 2) made) (H.state host.old) (H.state host.new) result }
 {
     let ListedOutput {
         name,
@@ -50,10 +47,8 @@ fn fill_all<H: Host, P: Pieces + Drop>(
     outputs: Vec<ListedOutput<P>>,
 ) -> Result<(), Failed>
     requires { CanDeliverAll (length outputs.items) (H.state host.old) }
-    ensures fills { Fills (map (listed_output P.to_come) outputs.items) (H.state host.old) (H.state host.new) result }
-    ensures in_turn { MadeInTurn (H.state host.old) (H.state host.new) }
-    ensures calls { let made = map (listed_output P.to_come) outputs.items in
-        Follows (MakesInTurn (length (H.state host.old).ended + 2) made) (H.state host.old) (H.state host.new) result }
+    ensures { let made = map (listed_output P.to_come) outputs.items in
+        Follows (MakesInTurn (length (ended_of (H.state host.old).calls) + 2) made) (H.state host.old) (H.state host.new) result }
 {
     for output in outputs {
         fill_one(host, output)?;
@@ -62,14 +57,10 @@ fn fill_all<H: Host, P: Pieces + Drop>(
 }
 
 /// Writes the outputs and then the report.
-#[tactic(auto, using(crate::proofs::Delivering::delivers_done))]
 fn deliver_all<H: Host, P: Pieces + Drop>(host: &mut H, plan: ListPlan<P>) -> Result<(), Failed>
     requires { CanDeliverAll (length plan.outputs.items) (H.state host.old) }
-    ensures delivers { let makes = list_makes P.to_come plan in
-        Delivers makes.outputs makes.report (H.state host.old) (H.state host.new) result }
-    ensures in_turn { MadeInTurn (H.state host.old) (H.state host.new) }
-    ensures calls { let makes = list_makes P.to_come plan in
-        Follows (DeliversAs made_in_turn (length (H.state host.old).ended + 2) makes.outputs makes.report) (H.state host.old) (H.state host.new) result }
+    ensures { let makes = list_makes P.to_come plan in
+        Follows (DeliversAs in_turn (length (ended_of (H.state host.old).calls) + 2) makes.outputs makes.report) (H.state host.old) (H.state host.new) result }
 {
     let ListPlan { outputs, report } = plan;
     fill_all(host, outputs)?;
@@ -82,8 +73,7 @@ pub fn carry_all<H: Host, P: Pieces + Drop, C: Drop>(
     prepared: Result<ListPlan<P>, Refusal<C>>,
 ) -> Option<Refusal<C>>
     requires { IfOk prepared (λ plan. CanDeliverAll (length plan.outputs.items) (H.state host.old)) }
-    ensures carries { CarriesOutInTurn (list_makes P.to_come) prepared (H.state host.old) (H.state host.new) result }
-    ensures in_turn { MadeInTurn (H.state host.old) (H.state host.new) }
+    ensures { CarriesOut in_turn (list_makes P.to_come) prepared (H.state host.old) (H.state host.new) result }
 {
     match prepared {
         Ok(plan) => match deliver_all(host, plan) {

@@ -1,12 +1,11 @@
 // Two outputs that are created, written piece by piece and ended, and then the report.
-ghost use Rattle.std.specs.Prelude.{◌≡◌, ◌≢◌, ◌+◌, ◌-◌, ◌<◌, ◌≤◌, ◌++◌, [], ◌∷◌, length, true, false, Option, Some, option_map, OnOk, slice_get};
+ghost use Rattle.std.specs.Prelude.{◌≡◌, ◌≢◌, ◌+◌, ◌-◌, ◌<◌, ◌≤◌, ◌++◌, [], ◌∷◌, length, true, false, Option, Some, option_map, IfOk, OnOk, slice_get};
 ghost use Rattle.snd_host.specs.Follows.{Follows};
+ghost use Rattle.snd_host.specs.History.{ended_of};
 ghost use Rattle.snd_host.specs.Host.{HostState};
-ghost use Rattle.command_runner.specs.Delivery.{CanDeliver, Delivers};
-ghost use Rattle.command_runner.specs.Ending.{FinishesInTurn};
-ghost use Rattle.command_runner.specs.Making.{AreEmpty, MadeAtOnce};
-ghost use Rattle.command_runner.specs.OutputCalls.{both, AreWoven, AreCreations, AreEndings, MakesAtOnce, at_once as made_at_once, DeliversAs};
-ghost use Rattle.command_runner.specs.Stream.{Begins, Puts, Ends, Fills, AreOpen, pair, stream_outputs};
+ghost use Rattle.command_runner.specs.Delivery.{CanDeliver};
+ghost use Rattle.command_runner.specs.OutputCalls.{both, AreWoven, AreCreations, AreEndings, MakesAtOnce, at_once, DeliversAs};
+ghost use Rattle.command_runner.specs.Stream.{AreTargets, AreOpen, pair, stream_outputs};
 
 use crate::Pieces;
 use snd_host::{Failed, Host, OutFile, write_all};
@@ -23,10 +22,10 @@ pub struct Targets {
 /// Creates the outputs.
 fn begin<H: Host>(host: &mut H, wave: &str, trace: Option<&str>) -> Result<Targets, Failed>
     requires { CanDeliver (H.state host.old) }
-    ensures begins { Begins wave.now (option_map (λ name. name.now) trace.entry) (H.state host.old) (H.state host.new) result }
-    ensures empty { AreEmpty (H.state host.old) (H.state host.new) }
+    ensures numbers { let next = length (ended_of (H.state host.old).calls) + 2 in
+        IfOk result (λ targets. AreTargets (option_map (λ name. name.now) trace.entry) next targets) }
     ensures calls { let outputs = pair wave.now (option_map (λ name. name.now) trace.entry) [] [] in
-        Follows (AreCreations (length (H.state host.old).ended + 2) outputs) (H.state host.old) (H.state host.new) result }
+        Follows (AreCreations (length (ended_of (H.state host.old).calls) + 2) outputs) (H.state host.old) (H.state host.new) result }
 {
     let wave = host.create(wave)?;
     match trace {
@@ -43,9 +42,8 @@ fn begin<H: Host>(host: &mut H, wave: &str, trace: Option<&str>) -> Result<Targe
 
 /// Writes a piece of each output.
 fn put<H: Host>(host: &mut H, targets: Targets, wave: &[u8], trace: &[u8]) -> Result<(), Failed>
-    requires { AreOpen (H.state host.old).ended targets }
-    ensures puts { Puts targets wave.now trace.now (H.state host.old) (H.state host.new) result }
-    ensures calls { let all = both targets.wave.0 (option_map (λ file. file.0) targets.trace) wave.now trace.now in
+    requires { AreOpen (ended_of (H.state host.old).calls) targets }
+    ensures { let all = both targets.wave.0 (option_map (λ file. file.0) targets.trace) wave.now trace.now in
         Follows (AreWoven all) (H.state host.old) (H.state host.new) result }
 {
     write_all(host, targets.wave, wave)?;
@@ -57,9 +55,7 @@ fn put<H: Host>(host: &mut H, targets: Targets, wave: &[u8], trace: &[u8]) -> Re
 
 /// Writes all pieces.
 fn pump<H: Host, P: Pieces>(host: &mut H, targets: Targets, source: &mut P) -> Result<(), Failed>
-    requires { AreOpen (H.state host.old).ended targets }
-    ensures puts { let made = P.to_come source.old in
-        Puts targets made.wave made.trace (H.state host.old) (H.state host.new) result }
+    requires { AreOpen (ended_of (H.state host.old).calls) targets }
     ensures calls { let made = P.to_come source.old in
         let all = both targets.wave.0 (option_map (λ file. file.0) targets.trace) made.wave made.trace in
         Follows (AreWoven all) (H.state host.old) (H.state host.new) result }
@@ -80,10 +76,9 @@ fn end_in_turn<H: Host>(host: &mut H, earlier: OutFile, later: OutFile) -> Resul
     requires earlier_created { 2 ≤ earlier.0 }
     requires later_created { 2 ≤ later.0 }
     requires apart { earlier.0 ≢ later.0 }
-    requires earlier_open { slice_get (H.state host.old).ended (earlier.0 - 2) ≡ Some false }
-    requires later_open { slice_get (H.state host.old).ended (later.0 - 2) ≡ Some false }
-    ensures finishes { FinishesInTurn earlier.0 later.0 (H.state host.old) (H.state host.new) result }
-    ensures calls { Follows (AreEndings ((earlier.0, []) ∷ (later.0, []) ∷ [])) (H.state host.old) (H.state host.new) result }
+    requires earlier_open { slice_get (ended_of (H.state host.old).calls) (earlier.0 - 2) ≡ Some false }
+    requires later_open { slice_get (ended_of (H.state host.old).calls) (later.0 - 2) ≡ Some false }
+    ensures { Follows (AreEndings ((earlier.0, []) ∷ (later.0, []) ∷ [])) (H.state host.old) (H.state host.new) result }
 {
     host.finish(earlier)?;
     host.finish(later)
@@ -91,9 +86,8 @@ fn end_in_turn<H: Host>(host: &mut H, earlier: OutFile, later: OutFile) -> Resul
 
 /// Ends the outputs, in their order.
 fn end<H: Host>(host: &mut H, targets: Targets) -> Result<(), Failed>
-    requires { AreOpen (H.state host.old).ended targets }
-    ensures ends { Ends targets (H.state host.old) (H.state host.new) result }
-    ensures calls { let all = both targets.wave.0 (option_map (λ file. file.0) targets.trace) [] [] in
+    requires { AreOpen (ended_of (H.state host.old).calls) targets }
+    ensures { let all = both targets.wave.0 (option_map (λ file. file.0) targets.trace) [] [] in
         Follows (AreEndings all) (H.state host.old) (H.state host.new) result }
 {
     match targets.trace {
@@ -111,12 +105,8 @@ pub(crate) fn fill_outputs<H: Host, P: Pieces>(
     source: &mut P,
 ) -> Result<(), Failed>
     requires { CanDeliver (H.state host.old) }
-    ensures fills { let outputs = stream_outputs wave.now (option_map (λ name. name.now) trace.entry) head.now (P.to_come source.old) in
-        Fills outputs (H.state host.old) (H.state host.new) result }
-    ensures at_once { let outputs = stream_outputs wave.now (option_map (λ name. name.now) trace.entry) head.now (P.to_come source.old) in
-        MadeAtOnce outputs (H.state host.old) (H.state host.new) }
     ensures calls { let outputs = stream_outputs wave.now (option_map (λ name. name.now) trace.entry) head.now (P.to_come source.old) in
-        Follows (MakesAtOnce (length (H.state host.old).ended + 2) outputs) (H.state host.old) (H.state host.new) result }
+        Follows (MakesAtOnce (length (ended_of (H.state host.old).calls) + 2) outputs) (H.state host.old) (H.state host.new) result }
     ensures report { OnOk result (P.report source.new ≡ P.report source.old) }
     ensures is_done { OnOk result (P.is_done source.new ≡ true) }
 {
@@ -135,12 +125,8 @@ pub fn stream<H: Host, P: Pieces>(
     source: &mut P,
 ) -> Result<(), Failed>
     requires { CanDeliver (H.state host.old) }
-    ensures delivers { let outputs = stream_outputs wave.now (option_map (λ name. name.now) trace.entry) head.now (P.to_come source.old) in
-        Delivers outputs (P.report source.old) (H.state host.old) (H.state host.new) result }
-    ensures at_once { let outputs = stream_outputs wave.now (option_map (λ name. name.now) trace.entry) head.now (P.to_come source.old) in
-        MadeAtOnce outputs (H.state host.old) (H.state host.new) }
-    ensures calls { let outputs = stream_outputs wave.now (option_map (λ name. name.now) trace.entry) head.now (P.to_come source.old) in
-        Follows (DeliversAs made_at_once (length (H.state host.old).ended + 2) outputs (P.report source.old)) (H.state host.old) (H.state host.new) result }
+    ensures { let outputs = stream_outputs wave.now (option_map (λ name. name.now) trace.entry) head.now (P.to_come source.old) in
+        Follows (DeliversAs at_once (length (ended_of (H.state host.old).calls) + 2) outputs (P.report source.old)) (H.state host.old) (H.state host.new) result }
 {
     fill_outputs(host, wave, trace, head, source)?;
     write_all(host, REPORT, source.report())

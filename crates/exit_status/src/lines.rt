@@ -1,7 +1,7 @@
 // The lines of complaint.
 ghost use Rattle.std.specs.Prelude.{◌≡◌, ◌++◌, codes, decimal};
+ghost use Rattle.snd_host.specs.Follows.{AreWrites, Follows};
 ghost use Rattle.snd_host.specs.Host.{HostState};
-ghost use Rattle.command_runner.specs.Conduct.{WritesLine};
 ghost use Rattle.exit_status.specs.Lines.{fault_end, cause_line, refusal_line, code_length_line};
 
 use crate::{Cause, LineFault};
@@ -25,7 +25,7 @@ fn fault_end(fault: LineFault) -> &'static [u8]
 
 /// Writes the line on code that does not fit.
 fn note_code_length<H: Host>(host: &mut H, length: usize, origin: u16) -> Result<(), Failed>
-    ensures { WritesLine (code_length_line length origin) (H.state host.old) (H.state host.new) result }
+    ensures { Follows (AreWrites 1 (code_length_line length origin)) (H.state host.old) (H.state host.new) result }
 {
     note_number(host, b"spcwave: ", length, b" bytes do not fit at ")?;
     write_all(host, COMPLAINT, &four_digits(origin))?;
@@ -34,7 +34,7 @@ fn note_code_length<H: Host>(host: &mut H, length: usize, origin: u16) -> Result
 
 /// Writes the line of a cause.
 fn note_cause<H: Host>(host: &mut H, cause: Cause) -> Result<(), Failed>
-    ensures { WritesLine (cause_line cause) (H.state host.old) (H.state host.new) result }
+    ensures { Follows (AreWrites 1 (cause_line cause)) (H.state host.old) (H.state host.new) result }
 {
     match cause {
         Cause::SpcLength(length) => note_number(

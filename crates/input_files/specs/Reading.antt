@@ -1,14 +1,12 @@
 -- What the reading of an input gives, or why it is refused. `C` is why the bytes of an input are refused.
-use Rattle.std.specs.Prelude.{◌≡◌, ◌⊎◌, ℕ, List, [], ◌∷◌, length, Option, Some, None, Result, Ok, Err, IfOk, IfErr, IsSome, is_ok, nat_lt, if◌then◌else◌}
+use Rattle.std.specs.Prelude.{◌≡◌, ◌⊎◌, ℕ, List, length, Option, Some, None, Result, Ok, Err, IfOk, IfErr, is_ok, nat_lt, if◌then◌else◌}
 use Rattle.snd_host.specs.Calls.{Call}
 use Rattle.snd_host.specs.Follows.{Since}
-use Rattle.snd_host.specs.Host.{HostState, IfKnown, InputFailed, ChangesInputs, max_limit}
+use Rattle.snd_host.specs.Host.{HostState, max_limit}
 use Rattle.snd_host.specs.Takes.{Takes}
 use Rattle.spc_form.specs.Accepted.{max_length}
-use Rattle.snd_host.specs.OpenedInputs.{whole_input, OpensInOrder}
 use Rattle.command_runner.specs.NamedInputs.{NamedInput}
 use Rattle.command_runner.specs.Answer.{Answer, refused}
-use Rattle.command_runner.specs.Conduct.{IsSettled, refusal_in}
 use Rattle.command_runner.specs.RunCalls.{EndsRefused}
 use Rattle.command_runner.specs.declared.refusals.Refusal.{Refusal}
 use Rattle.command_runner.specs.declared.refusals.Refusal.TheVariants.{Usage, ReadFault, WriteFault, OutOfMemory, Input}
@@ -56,36 +54,16 @@ pub record Accepts {T C : Type 0} (given : Result T (Refusal C)) (result : Resul
   pub ok : IfOk result (λ value. given ≡ Ok value)
   pub err : IfErr result (λ refusal. Declines given refusal)
 
--- An input of this name was read and refused as it is to be, or it could not be read, or there was no memory.
-pub record DeclinesInput {T C : Type 0} (name : List ℕ) (given : Option (List ℕ) → Result T (Refusal C)) (old new : HostState)
-    (refusal : Refusal C) : Type 0 where
-  pub known : IfKnown old.holds (λ files. (given (files name) ≡ Err refusal) ⊎ (refusal ≡ ReadFault) ⊎ (refusal ≡ OutOfMemory))
-  pub read : refusal ≡ ReadFault → InputFailed old new
-  pub no_fault : (refusal ≡ ReadFault → ⊥) → new.faults.inputs ≡ old.faults.inputs
-  pub steady : refusal ≡ ReadFault → IsSome old.steady → IfKnown old.holds (λ files. given (files name) ≡ Err ReadFault)
-  pub no_usage : refusal ≡ Usage → ⊥
-  pub no_write : refusal ≡ WriteFault → ⊥
-
 -- How the calls for an input ended that gave these bytes: all were made, and the value is what the bytes give, or there is none.
 abbrev pub EndsRead : {T C : Type 0} → (name : List ℕ) → (limit : ℕ) → (given : Option (List ℕ) → Result T (Refusal C)) → Result T (Refusal C)
     → (bytes : List ℕ) → (taken : List Call) → Type 0
 EndsRead name limit given (Ok value) bytes taken = Takes name limit bytes taken × (given (Some bytes) ≡ Ok value)
 EndsRead name limit given (Err why) bytes taken = EndsRefused (Takes name limit bytes) (given (Some bytes) ≡ Err why) why taken
 
--- The calls for the input were made, and no others.
-pub record ReadsBy {T C : Type 0} (name : List ℕ) (limit : ℕ) (given : Option (List ℕ) → Result T (Refusal C)) (old new : HostState)
+-- The calls for an input of this name, which may have so many bytes, were made, and no others; the value is what its bytes give.
+pub record Reads {T C : Type 0} (name : List ℕ) (limit : ℕ) (given : Option (List ℕ) → Result T (Refusal C)) (old new : HostState)
     (result : Result T (Refusal C)) : Type 0 where
   pub bytes : List ℕ
   pub taken : List Call
   pub since : Since taken old new
   pub ends : EndsRead name limit given result bytes taken
-
--- An input of this name, which may have so many bytes, was opened once and read as what it gives, by what it holds.
-pub record Reads {T C : Type 0} (name : List ℕ) (limit : ℕ) (given : Option (List ℕ) → Result T (Refusal C)) (old new : HostState)
-    (result : Result T (Refusal C)) : Type 0 where
-  pub others : ChangesInputs old new
-  pub opened : IfKnown old.holds (λ files. OpensInOrder (whole_input files name limit ∷ []) (IsSettled (refusal_in result)) old new)
-  pub no_fault : IfOk result (λ value. new.faults.inputs ≡ old.faults.inputs)
-  pub ok : IfOk result (λ value. IfKnown old.holds (λ files. given (files name) ≡ Ok value))
-  pub err : IfErr result (λ refusal. DeclinesInput name given old new refusal)
-  pub calls : ReadsBy name limit given old new result

@@ -8,79 +8,24 @@ use Rattle.command_runner.specs.Conduct.{IsOfDelivery, AttemptsAs, WritesComplai
 use Rattle.command_runner.specs.Delivery.{all_ended}
 use Rattle.command_runner.specs.Leaves.{Leaves, LeavesNothing, LeavesAll, Complains}
 use Rattle.command_runner.specs.declared.refusals.Refusal.{Refusal}
-use Rattle.command_runner.specs.declared.refusals.Refusal.TheVariants.{Usage, ReadFault, WriteFault, OutOfMemory, Input}
-use Rattle.snd_host.proofs.CallsInOrder.{since_then}
+use Rattle.command_runner.specs.declared.refusals.Refusal.TheVariants.{Usage, ReadFault, WriteFault, OutOfMemory}
+use Rattle.command_runner.proofs.Sequences.{since_then}
 use Rattle.command_runner.proofs.Making.{at_once_complained, in_turn_complained}
 use Rattle.command_runner.proofs.Leaving.{leaves, complains, reports_last, reports_behind_ended}
 use Rattle.exit_status.specs.declared.cause.Cause.{Cause}
-use Rattle.exit_status.specs.declared.cause.Cause.TheVariants.{SpcLength, SpcSignature, TableLength, BrrLength, WavForm, EncodeSize, InputTooLong, AsmLine, CodeLength, CutList, Script}
 use Rattle.exit_status.specs.declared.status.Status.{Status}
 use Rattle.exit_status.specs.declared.status.Status.TheVariants as statuses
 use Rattle.command_line.specs.Command.{Command, usage, render, rip}
-use Rattle.spcwave.specs.Answers.{answer_by, answer_of, inputs_of, order_of}
+use Rattle.run_laws.specs.Answers.{answer_by, answer_of, inputs_of, order_of}
+use Rattle.run_laws.specs.MakesCalls.{MakesCalls}
+use Rattle.exit_status.proofs.Ends.{IsEnd, plain_is, line_end, same_end}
 use Rattle.exit_status.specs.Statuses.{status_of, answer_status, end_without_numbers}
 use Rattle.exit_status.specs.Lines.{end_line, refusal_line}
 use Rattle.spcwave.specs.RunClauses as clause
 
--- a status without numbers shows its end
-pub plain_is : (r p : Option (Refusal Cause)) → end_without_numbers (status_of r) ≡ Some p → r ≡ p
-plain_is None p h = cc
-plain_is (Some Usage) p h = cc
-plain_is (Some ReadFault) p h = cc
-plain_is (Some WriteFault) p h = cc
-plain_is (Some OutOfMemory) p h = cc
-plain_is (Some (Input (SpcLength n))) p h = absurd (cc)
-plain_is (Some (Input (SpcSignature at))) p h = absurd (cc)
-plain_is (Some (Input (TableLength n))) p h = absurd (cc)
-plain_is (Some (Input (BrrLength n))) p h = absurd (cc)
-plain_is (Some (Input WavForm)) p h = cc
-plain_is (Some (Input (EncodeSize n))) p h = absurd (cc)
-plain_is (Some (Input InputTooLong)) p h = cc
-plain_is (Some (Input (AsmLine line fault))) p h = absurd (cc)
-plain_is (Some (Input (CodeLength n origin))) p h = absurd (cc)
-plain_is (Some (Input (CutList line))) p h = absurd (cc)
-plain_is (Some (Input (Script line))) p h = absurd (cc)
-
--- an end is that of the answer, or one of three others
-abbrev IsEnd : Option (Refusal Cause) → Answer Cause → Type 0
-IsEnd r a = (r ≡ refusal_of a) ⊎ ((r ≡ Some ReadFault) ⊎ ((r ≡ Some WriteFault) ⊎ (r ≡ Some OutOfMemory)))
-
--- the end of a refused input is that of the answer
-input_end : (cause : Cause) (a : Answer Cause) → IsEnd (Some (Input cause)) a → refusal_of a ≡ Some (Input cause)
-input_end cause a (inl same) = sym same
-input_end cause a (inr (inl wrong)) = absurd (cc)
-input_end cause a (inr (inr (inl wrong))) = absurd (cc)
-input_end cause a (inr (inr (inr wrong))) = absurd (cc)
-
--- with the numbers of the answer
-line_end : (r : Option (Refusal Cause)) (a : Answer Cause) → IsEnd r a → unwrap_or (end_without_numbers (status_of r)) (refusal_of a) ≡ r
-line_end None a end = refl
-line_end (Some Usage) a end = refl
-line_end (Some ReadFault) a end = refl
-line_end (Some WriteFault) a end = refl
-line_end (Some OutOfMemory) a end = refl
-line_end (Some (Input (SpcLength n))) a end = input_end (SpcLength n) a end
-line_end (Some (Input (SpcSignature at))) a end = input_end (SpcSignature at) a end
-line_end (Some (Input (TableLength n))) a end = input_end (TableLength n) a end
-line_end (Some (Input (BrrLength n))) a end = input_end (BrrLength n) a end
-line_end (Some (Input WavForm)) a end = refl
-line_end (Some (Input (EncodeSize n))) a end = input_end (EncodeSize n) a end
-line_end (Some (Input InputTooLong)) a end = refl
-line_end (Some (Input (AsmLine line fault))) a end = input_end (AsmLine line fault) a end
-line_end (Some (Input (CodeLength n origin))) a end = input_end (CodeLength n origin) a end
-line_end (Some (Input (CutList line))) a end = input_end (CutList line) a end
-line_end (Some (Input (Script line))) a end = input_end (Script line) a end
-
--- an end that has the status of the answer is the answer's
-same_end : (r : Option (Refusal Cause)) (a : Answer Cause) → IsEnd r a → status_of r ≡ answer_status a → r ≡ refusal_of a
-same_end r a (inl same) equal = same
-same_end r a (inr (inl is)) equal = is ∙ sym (plain_is (refusal_of a) (Some ReadFault) (ap end_without_numbers (sym equal ∙ ap status_of is)))
-same_end r a (inr (inr (inl is))) equal = is ∙ sym (plain_is (refusal_of a) (Some WriteFault) (ap end_without_numbers (sym equal ∙ ap status_of is)))
-same_end r a (inr (inr (inr is))) equal = is ∙ sym (plain_is (refusal_of a) (Some OutOfMemory) (ap end_without_numbers (sym equal ∙ ap status_of is)))
-
 -- the calls of the attempt, and then those of its complaint
 pub calls : (command : Command) (r : Option (Refusal Cause)) (x y z : HostState) (status : Status) → status ≡ status_of r → AttemptsAs (order_of command) (answer_by command) (inputs_of command) r x y → WritesComplaint (end_line r) y z →
-    ((r ≡ Some Usage) ↔ (command ≡ usage)) → clause.MakesCalls command x z status
+    ((r ≡ Some Usage) ↔ (command ≡ usage)) → MakesCalls command x z status
 calls command r x y z status is t c misread = record {
   refusal = r;
   status_is = is;
@@ -231,8 +176,8 @@ module _ (command : Command) (r : Option (Refusal Cause)) (x z : HostState) (sta
     no_fault_plain = λ rooms steady end plain. no_fault_with rooms steady end (plain_is r end (ap end_without_numbers (sym is) ∙ plain));
   }
 
-  pub on_every_host : clause.OnEveryHost command x z status
-  on_every_host = record {
+  pub untold : clause.Untold command x z status
+  untold = record {
     misread = (λ same. misread.0 (end_of (Some Usage) statuses.Usage refl same), λ words. status_is _ (misread.1 words));
     unread = λ other. o.causes.no_fault_inputs (λ same. other (status_is _ same));
     unwritten = λ other. o.causes.no_fault_outputs (λ same. other (status_is _ same));

@@ -1,7 +1,5 @@
 -- What a run of the program does. The answer meant is that of the command, by what the names hold at the call.
-use Rattle.std.specs.Prelude.{ℕ, ◌≡◌, ◌≢◌, ◌↔◌, ◌+◌, ◌<◌, ◌≤◌, ◌⊎◌, List, ◌++◌, length, Option, Some, IsTrue, IsSome, slice_index}
-use Rattle.snd_host.specs.Calls.{Call}
-use Rattle.snd_host.specs.Follows.{Since}
+use Rattle.std.specs.Prelude.{ℕ, ◌≡◌, ◌≢◌, ◌↔◌, ◌+◌, ◌<◌, ◌≤◌, ◌⊎◌, length, IsTrue, IsSome, slice_index}
 use Rattle.snd_host.specs.Host.{HostState, IfKnown, InputFailed, OutputFailed}
 use Rattle.snd_host.specs.OpenedInputs.{OpensInOrder}
 use Rattle.command_runner.specs.NamedInputs.{are_some, inputs_read, inputs_reached}
@@ -9,16 +7,13 @@ use Rattle.command_runner.specs.Answer.{outputs_of, report_of}
 use Rattle.command_runner.specs.Conduct.{NoneRose}
 use Rattle.command_runner.specs.Delivery.{HaveRooms}
 use Rattle.command_runner.specs.Making.{MadeAtOnce, MadeInTurn}
-use Rattle.command_runner.specs.RunCalls.{EndsBy, AreNoted}
-use Rattle.command_runner.specs.declared.refusals.Refusal.{Refusal}
-use Rattle.command_runner.specs.declared.refusals.Refusal.TheVariants.{Usage}
-use Rattle.exit_status.specs.declared.cause.Cause.{Cause}
 use Rattle.command_runner.specs.Leaves.{LeavesNothing, LeavesAll, LeavesPart, ReportsLast, ReportsAfterEnded, Complains}
 use Rattle.exit_status.specs.declared.status.Status.{Status}
 use Rattle.exit_status.specs.declared.status.Status.TheVariants as statuses
 use Rattle.command_line.specs.Command.{Command, usage, render, rip}
-use Rattle.spcwave.specs.Answers.{answer_by, answer_of, inputs_of, order_of}
-use Rattle.exit_status.specs.Statuses.{status_of, answer_status, end_without_numbers}
+use Rattle.run_laws.specs.Answers.{answer_of, inputs_of}
+use Rattle.run_laws.specs.MakesCalls.{MakesCalls}
+use Rattle.exit_status.specs.Statuses.{answer_status, end_without_numbers}
 use Rattle.exit_status.specs.Lines.{end_line, status_line}
 
 -- a run is begun on a host on which fewer outputs were created than this: what it creates is far below what is left
@@ -28,22 +23,6 @@ max_outputs_before = 4000000000
 -- fewer than that were created on the host
 abbrev pub HasFewOutputs : HostState → Type 0
 HasFewOutputs state = length state.ended < max_outputs_before
-
--- The calls that a run makes, in their order: those for its inputs, those for its outputs and its report, those for its line of complaint, and no
--- others. So nothing comes after a call that failed but the complaint. What is answered goes by the bytes that the inputs gave.
-pub record MakesCalls (command : Command) (old new : HostState) (status : Status) : Type 0 where
-  pub refusal : Option (Refusal Cause)
-  pub status_is : status ≡ status_of refusal
-  -- the bytes that each input gave
-  pub given : List (List ℕ)
-  pub taken : List Call
-  pub made : List Call
-  pub note : List Call
-  pub since : Since (taken ++ made ++ note) old new
-  pub ends : EndsBy (order_of command) (answer_by command) (inputs_of command) refusal (length old.ended + 2) given taken made
-  pub complaint : AreNoted (end_line refusal) note
-  -- Words that say no command end as such, whatever memory there is.
-  pub misread : (refusal ≡ Some Usage) ↔ (command ≡ usage)
 
 -- What stands on the host where the status is the answer's, and the complaint of every status.
 pub record Content (command : Command) (old new : HostState) (status : Status) : Type 0 where

@@ -10,7 +10,6 @@ mod failing_tests;
 mod given;
 #[cfg(test)]
 mod hostile_tests;
-mod laws;
 mod run;
 #[cfg(test)]
 mod runs;

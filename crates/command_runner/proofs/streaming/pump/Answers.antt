@@ -1,15 +1,15 @@
-use Rattle.std.proofs.Common.{[], ◌++◌, ◌∙◌, ap, sym, refl, List, ℕ, Ok}
+use Rattle.std.proofs.Common.{[], ◌++◌, ◌∙◌, ap, sym, refl, subst, Bool, List, ℕ, Ok}
 use Rattle.std.proofs.lemmas.List.{append_assoc}
 use Rattle.std.proofs.lemmas.Result.{err_from_is_err_and}
 use Rattle.snd_host.proofs.CallsInOrder.{since_none}
-use Rattle.command_runner.proofs.Streams.{pumps_first, pumps_next, pumps_failed, pumps_done}
+use Rattle.command_runner.specs.Stream.{AreOpen}
+use Rattle.command_runner.proofs.Flags.{since_writes}
 use Rattle.command_runner.proofs.OutputsMade.{apart}
 use Rattle.command_runner.proofs.Woven.{no_writes_to, pumped, pump_failed, pump_done}
 use Rattle.command_runner.proofs.streaming.pump.Goals as goal
 
 pub pieces-init : goal.pieces-init
 pieces-init g c = record {
-  pumps = pumps_first c.args.targets _ _;
   report = refl;
   calls = [];
   xs = [];
@@ -20,21 +20,10 @@ pieces-init g c = record {
   trace = refl;
 }
 
-pub returns-in_err-put-clause-puts : goal.returns-in_err-put-clause-puts
-returns-in_err-put-clause-puts g c =
-    let p = err_from_is_err_and c.from_residual.result c.from_residual.ensures.1 in
-    let more = g.P.Pieces.to_come c.make_next-done.new.self in
-    let e = c.make_next-done.ensures in
-    rw (p.1) (pumps_failed c.args.targets (g.P.Pieces.to_come c.args.source.now) (g.P.Pieces.to_come c.pieces.source) (record { wave = c.wave.result.now; trace = c.trace.result.now }) more _ _ _ _
-    (e.wave ∙ ap (λ (l : List ℕ). l ++ more.wave) (sym c.wave.ensures)) (e.trace ∙ ap (λ (l : List ℕ). l ++ more.trace) (sym c.trace.ensures)) c.pieces.invariant.pumps c.in_err-put.ensures.puts)
-
-pub returns-then-done-clause-puts : goal.returns-then-done-clause-puts
-returns-then-done-clause-puts g c =
-    let more = g.P.Pieces.to_come c.make_next-done.new.self in
-    let e = c.make_next-done.ensures in
-    pumps_done c.args.targets (g.P.Pieces.to_come c.args.source.now) more _ _ (e.wave_done c.if-done.true) (e.trace_done c.if-done.true)
-    (pumps_next c.args.targets (g.P.Pieces.to_come c.args.source.now) (g.P.Pieces.to_come c.pieces.source) (record { wave = c.wave.result.now; trace = c.trace.result.now }) more _ _ _ _
-    (e.wave ∙ ap (λ (l : List ℕ). l ++ more.wave) (sym c.wave.ensures)) (e.trace ∙ ap (λ (l : List ℕ). l ++ more.trace) (sym c.trace.ensures)) c.pieces.invariant.pumps c.in_ok-put.ensures.puts)
+pub put-requires : goal.put-requires
+put-requires g c =
+    let so_far = c.pieces.invariant in
+    subst (λ (l : List Bool). AreOpen l c.args.targets) (sym (since_writes _ so_far.calls _ _ so_far.since so_far.woven)) c.requires
 
 pub pieces-preserved : goal.pieces-preserved
 pieces-preserved g c =
@@ -43,10 +32,8 @@ pieces-preserved g c =
     let so_far = c.pieces.invariant in
     let wave = ap (λ (l : List ℕ). so_far.xs ++ (l ++ more.wave)) c.wave.ensures ∙ ap (λ (l : List ℕ). so_far.xs ++ l) (sym e.wave) ∙ so_far.wave in
     let trace = ap (λ (l : List ℕ). so_far.ys ++ (l ++ more.trace)) c.trace.ensures ∙ ap (λ (l : List ℕ). so_far.ys ++ l) (sym e.trace) ∙ so_far.trace in
-    let made = pumped c.args.targets.wave.0 _ so_far.xs so_far.ys c.wave.result.now c.trace.result.now (g.H.Host.state c.args.host.now) (g.H.Host.state c.pieces.host) (g.H.Host.state c.put.new.host) (tt {0}) (Ok c.in_ok-put.field-0) (record { calls = so_far.calls; since = so_far.since; does = so_far.woven }) c.in_ok-put.ensures.calls in
+    let made = pumped c.args.targets.wave.0 _ so_far.xs so_far.ys c.wave.result.now c.trace.result.now (g.H.Host.state c.args.host.now) (g.H.Host.state c.pieces.host) (g.H.Host.state c.put.new.host) (tt {0}) (Ok c.in_ok-put.field-0) (record { calls = so_far.calls; since = so_far.since; does = so_far.woven }) c.in_ok-put.ensures in
     record {
-      pumps = pumps_next c.args.targets (g.P.Pieces.to_come c.args.source.now) (g.P.Pieces.to_come c.pieces.source) (record { wave = c.wave.result.now; trace = c.trace.result.now }) more _ _ _ _
-          (e.wave ∙ ap (λ (l : List ℕ). l ++ more.wave) (sym c.wave.ensures)) (e.trace ∙ ap (λ (l : List ℕ). l ++ more.trace) (sym c.trace.ensures)) so_far.pumps c.in_ok-put.ensures.puts;
       report = e.report ∙ so_far.report;
       calls = made.calls;
       xs = so_far.xs ++ c.wave.result.now;
@@ -66,7 +53,7 @@ returns-in_err-put-clause-calls g c =
     let wave = ap (λ (l : List ℕ). so_far.xs ++ (l ++ more.wave)) c.wave.ensures ∙ ap (λ (l : List ℕ). so_far.xs ++ l) (sym e.wave) ∙ so_far.wave in
     let trace = ap (λ (l : List ℕ). so_far.ys ++ (l ++ more.trace)) c.trace.ensures ∙ ap (λ (l : List ℕ). so_far.ys ++ l) (sym e.trace) ∙ so_far.trace in
     rw (p.1) (pump_failed c.args.targets.wave.0 _ so_far.xs so_far.ys c.wave.result.now c.trace.result.now more.wave more.trace _ _ _ _ _ (tt {0}) _ _ (apart _ c.args.targets.wave.0 c.args.targets.trace c.requires.trace_open) wave trace
-    (record { calls = so_far.calls; since = so_far.since; does = so_far.woven }) c.in_err-put.ensures.calls)
+    (record { calls = so_far.calls; since = so_far.since; does = so_far.woven }) c.in_err-put.ensures)
 
 pub returns-then-done-clause-calls : goal.returns-then-done-clause-calls
 returns-then-done-clause-calls g c =
@@ -76,4 +63,4 @@ returns-then-done-clause-calls g c =
     let wave = ap (λ (l : List ℕ). so_far.xs ++ (l ++ more.wave)) c.wave.ensures ∙ ap (λ (l : List ℕ). so_far.xs ++ l) (sym e.wave) ∙ so_far.wave in
     let trace = ap (λ (l : List ℕ). so_far.ys ++ (l ++ more.trace)) c.trace.ensures ∙ ap (λ (l : List ℕ). so_far.ys ++ l) (sym e.trace) ∙ so_far.trace in
     pump_done c.args.targets.wave.0 _ so_far.xs so_far.ys c.wave.result.now c.trace.result.now more.wave more.trace _ _ _ _ _ (tt {0}) _ wave trace (e.wave_done c.if-done.true) (e.trace_done c.if-done.true)
-    (record { calls = so_far.calls; since = so_far.since; does = so_far.woven }) c.in_ok-put.ensures.calls
+    (record { calls = so_far.calls; since = so_far.since; does = so_far.woven }) c.in_ok-put.ensures

@@ -1,14 +1,13 @@
 use Rattle.std.proofs.Common.{List, ℕ, ◌++◌, subst}
 use Rattle.std.specs.Prelude.{codes, decimal}
-use Rattle.command_runner.specs.Conduct.{WritesLine}
-use Rattle.command_runner.proofs.Writing.{line_of_write}
+use Rattle.snd_host.specs.Follows.{AreWrites, Follows}
 use Rattle.exit_status.proofs.lines.note_cause.Goals as goal
 
 pub returns-in-WavForm : goal.returns-in-WavForm
-returns-in-WavForm g c = rw c.in-WavForm.is (line_of_write _ _ _ _ c.write_all.ensures.wrote c.write_all.ensures.calls)
+returns-in-WavForm g c = rw c.in-WavForm.is c.write_all.ensures
 
 pub returns-in-InputTooLong : goal.returns-in-InputTooLong
-returns-in-InputTooLong g c = rw c.in-InputTooLong.is (line_of_write _ _ _ _ c.write_all-in-InputTooLong.ensures.wrote c.write_all-in-InputTooLong.ensures.calls)
+returns-in-InputTooLong g c = rw c.in-InputTooLong.is c.write_all-in-InputTooLong.ensures
 
 pub returns-in-SpcSignature : goal.returns-in-SpcSignature
 returns-in-SpcSignature g c = rw c.in-SpcSignature.is c.note_number-in-SpcSignature.ensures
@@ -22,5 +21,5 @@ returns-in-Script g c = rw c.in-Script.is c.note_number-in-Script.ensures
 pub returns-in-AsmLine : goal.returns-in-AsmLine
 returns-in-AsmLine g c =
     rw c.in-AsmLine.is
-    (subst (λ (end : List ℕ). WritesLine (codes "spcwave: line " ++ decimal c.in-AsmLine.line ++ end) (g.H.Host.state c.args.host.now) (g.H.Host.state c.note_number-in-AsmLine.new.host) c.note_number-in-AsmLine.result)
+    (subst (λ (end : List ℕ). Follows (AreWrites 1 (codes "spcwave: line " ++ decimal c.in-AsmLine.line ++ end)) (g.H.Host.state c.args.host.now) (g.H.Host.state c.note_number-in-AsmLine.new.host) c.note_number-in-AsmLine.result)
     c.fault_end.ensures c.note_number-in-AsmLine.ensures)

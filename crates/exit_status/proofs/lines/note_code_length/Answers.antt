@@ -1,9 +1,9 @@
 use Rattle.std.proofs.Common.{List, ℕ, Err, Ok, ◌++◌, subst}
 use Rattle.std.specs.Prelude.{codes, decimal}
 use Rattle.std.proofs.lemmas.Result.{err_from_is_err_and}
-use Rattle.command_runner.specs.Conduct.{WritesLine}
+use Rattle.snd_host.specs.Follows.{AreWrites, Follows}
 use Rattle.text_form.specs.Digits.{four_digits}
-use Rattle.command_runner.proofs.Writing.{line_of_write, line_failed, line_then}
+use Rattle.command_runner.proofs.Writing.{line_failed, line_then}
 use Rattle.exit_status.proofs.lines.note_code_length.Goals as goal
 
 pub returns-in_err-note_number : goal.returns-in_err-note_number
@@ -16,11 +16,11 @@ pub returns-in_err-write_all : goal.returns-in_err-write_all
 returns-in_err-write_all g c =
     let p = err_from_is_err_and c.from_residual-in_err-write_all.result c.from_residual-in_err-write_all.ensures.1 in
     let head : List ℕ = codes "spcwave: " ++ decimal c.args.length ++ codes " bytes do not fit at " in
-    let digits = subst (λ (l : List ℕ). WritesLine l (g.H.Host.state c.note_number.new.host) (g.H.Host.state c.write_all.new.host) (Err c.in_err-write_all.field-0.0)) c.four_digits.ensures (line_of_write _ _ _ _ c.in_err-write_all.ensures.wrote c.in_err-write_all.ensures.calls) in
+    let digits = subst (λ (l : List ℕ). Follows (AreWrites 1 l) (g.H.Host.state c.note_number.new.host) (g.H.Host.state c.write_all.new.host) (Err c.in_err-write_all.field-0.0)) c.four_digits.ensures c.in_err-write_all.ensures in
     rw (p.1) (line_failed (head ++ four_digits c.args.origin) (codes "\n") _ _ _ (line_then head (four_digits c.args.origin) _ _ _ _ _ c.in_ok-note_number.ensures digits))
 
 pub returns : goal.returns
 returns g c =
     let head : List ℕ = codes "spcwave: " ++ decimal c.args.length ++ codes " bytes do not fit at " in
-    let digits = subst (λ (l : List ℕ). WritesLine l (g.H.Host.state c.note_number.new.host) (g.H.Host.state c.write_all.new.host) (Ok c.in_ok-write_all.field-0)) c.four_digits.ensures (line_of_write _ _ _ _ c.in_ok-write_all.ensures.wrote c.in_ok-write_all.ensures.calls) in
-    line_then (head ++ four_digits c.args.origin) (codes "\n") _ _ _ _ _ (line_then head (four_digits c.args.origin) _ _ _ _ _ c.in_ok-note_number.ensures digits) (line_of_write _ _ _ _ c.write_all-2.ensures.wrote c.write_all-2.ensures.calls)
+    let digits = subst (λ (l : List ℕ). Follows (AreWrites 1 l) (g.H.Host.state c.note_number.new.host) (g.H.Host.state c.write_all.new.host) (Ok c.in_ok-write_all.field-0)) c.four_digits.ensures c.in_ok-write_all.ensures in
+    line_then (head ++ four_digits c.args.origin) (codes "\n") _ _ _ _ _ (line_then head (four_digits c.args.origin) _ _ _ _ _ c.in_ok-note_number.ensures digits) c.write_all-2.ensures

@@ -1,0 +1,6 @@
+use Rattle.run_laws.proofs.Runs.{write_fault_accepted}
+use Rattle.run_laws.proofs.OfRuns.{of_run}
+use Rattle.run_laws.proofs.laws.a_run_that_could_not_write_was_not_refused.Goals as goal
+
+pub returns : goal.returns
+returns c = λ command old new status run same. write_fault_accepted _ _ _ _ _ _ _ (of_run command old new status run) same
