@@ -5,7 +5,9 @@ ghost use Rattle.wav_form.specs.Wave.{mono_wave};
 ghost use Rattle.snd_host.specs.Host.{HostState};
 ghost use Rattle.input_files.specs.Reading.{input_limit, input_up_to};
 ghost use Rattle.command_runner.specs.NamedInputs.{Held, first};
-ghost use Rattle.command_runner.specs.Conduct.{Plans, Prepares, Attempts};
+ghost use Rattle.command_runner.specs.Conduct.{Plans, PreparesBy};
+ghost use Rattle.command_runner.specs.OutputCalls.{at_once};
+ghost use Rattle.command_runner.specs.RunCalls.{AttemptsBy};
 ghost use Rattle.command_runner.specs.Delivery.{CanDeliver};
 ghost use Rattle.command_runner.specs.Plan.{plan_makes};
 ghost use Rattle.command_brr.specs.Brr.{decoding_answer, brr_answer};
@@ -75,7 +77,7 @@ fn prepare<'a, H: Host>(
     output: &'a str,
 ) -> Result<Plan<'a>, Refusal<Cause>>
     ensures { let answer = λ (held : Held). brr_answer output.now (first held) in
-        Prepares plan_makes answer (input_up_to input_limit input.now ∷ []) (H.state host.old) (H.state host.new) result }
+        PreparesBy plan_makes answer (input_up_to input_limit input.now ∷ []) (H.state host.old) (H.state host.new) result }
 {
     let bytes = read_input(alloc, host, input, INPUT_LIMIT, Cause::InputTooLong)?;
     plan(alloc, bytes.as_slice(), output)
@@ -90,7 +92,7 @@ pub fn brr<H: Host>(
 ) -> Option<Refusal<Cause>>
     requires { CanDeliver (H.state host.old) }
     ensures attempts { let answer = λ (held : Held). brr_answer output.now (first held) in
-        Attempts answer (input_up_to input_limit input.now ∷ []) result (H.state host.old) (H.state host.new) }
+        AttemptsBy at_once answer (input_up_to input_limit input.now ∷ []) result (H.state host.old) (H.state host.new) }
     ensures not_usage { result ≡ Some Refusal.Usage → ⊥ }
 {
     let prepared = prepare(alloc, host, input, output);

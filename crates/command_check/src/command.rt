@@ -5,7 +5,9 @@ ghost use Rattle.render_core.specs.RenderState.{frames_to_come, counts_to_come};
 ghost use Rattle.snd_host.specs.Host.{HostState};
 ghost use Rattle.command_runner.specs.NamedInputs.{Held};
 ghost use Rattle.command_runner.specs.Answer.{done};
-ghost use Rattle.command_runner.specs.Conduct.{Plans, Attempts};
+ghost use Rattle.command_runner.specs.Conduct.{Plans};
+ghost use Rattle.command_runner.specs.OutputCalls.{at_once};
+ghost use Rattle.command_runner.specs.RunCalls.{AttemptsBy};
 ghost use Rattle.command_runner.specs.Delivery.{CanDeliver};
 ghost use Rattle.command_runner.specs.Plan.{plan_makes};
 ghost use Rattle.command_check.specs.Check.{checked_samples, sums_of, demo_frames, demo_counts, check_report, check_answer};
@@ -109,7 +111,7 @@ fn plan<'a>(alloc: Global, number: u32) -> Result<Plan<'a>, Refusal<Cause>>
 pub fn check<H: Host>(alloc: Global, host: &mut H, number: u32) -> Option<Refusal<Cause>>
     requires { CanDeliver (H.state host.old) }
     ensures attempts { let answer = λ (held : Held). check_answer number in
-        Attempts answer [] result (H.state host.old) (H.state host.new) }
+        AttemptsBy at_once answer [] result (H.state host.old) (H.state host.new) }
     ensures not_usage { result ≡ Some Refusal.Usage → ⊥ }
 {
     let prepared = plan(alloc, number);

@@ -6,7 +6,9 @@ ghost use Rattle.snd_host.specs.Host.{HostState};
 ghost use Rattle.input_files.specs.Reading.{input_limit, input_up_to};
 ghost use Rattle.input_files.specs.Inputs.{table_input};
 ghost use Rattle.command_runner.specs.NamedInputs.{Held, first, second};
-ghost use Rattle.command_runner.specs.Conduct.{Plans, Prepares, Attempts};
+ghost use Rattle.command_runner.specs.Conduct.{Plans, PreparesBy};
+ghost use Rattle.command_runner.specs.OutputCalls.{at_once};
+ghost use Rattle.command_runner.specs.RunCalls.{AttemptsBy};
 ghost use Rattle.command_runner.specs.Delivery.{CanDeliver};
 ghost use Rattle.command_runner.specs.Plan.{stream_makes};
 ghost use Rattle.cut_form.specs.CutBook.{cut_book};
@@ -88,7 +90,7 @@ fn prepare_list<'a, H: Host>(
     muted: u8,
 ) -> Result<StreamedPlan<'a, CutFiles<Dsp>>, Refusal<Cause>>
     ensures { let answer = λ (held : Held). table_answer names.entry.wave.now muted (first held) file.now table in
-        Prepares (stream_makes (to_come_of dsp_chip dsp_saving) (report_of dsp_chip dsp_saving)) answer
+        PreparesBy (stream_makes (to_come_of dsp_chip dsp_saving) (report_of dsp_chip dsp_saving)) answer
         (input_up_to input_limit names.entry.list.now ∷ []) (H.state host.old) (H.state host.new) result }
 {
     let cuts = read_list(alloc, host, names.list)?;
@@ -104,7 +106,7 @@ fn prepare_table<'a, H: Host>(
     muted: u8,
 ) -> Result<StreamedPlan<'a, CutFiles<Dsp>>, Refusal<Cause>>
     ensures { let answer = λ (held : Held). file_answer names.entry.wave.now muted (first held) (second held) file.now in
-        Prepares (stream_makes (to_come_of dsp_chip dsp_saving) (report_of dsp_chip dsp_saving)) answer
+        PreparesBy (stream_makes (to_come_of dsp_chip dsp_saving) (report_of dsp_chip dsp_saving)) answer
         (table_input names.entry.table.now ∷ input_up_to input_limit names.entry.list.now ∷ []) (H.state host.old) (H.state host.new) result }
 {
     let table = read_table(alloc, host, names.table)?;
@@ -119,7 +121,7 @@ fn prepare<'a, H: Host>(
     muted: u8,
 ) -> Result<StreamedPlan<'a, CutFiles<Dsp>>, Refusal<Cause>>
     ensures { let answer = cuts_over names.entry.wave.now muted in
-        Prepares (stream_makes (to_come_of dsp_chip dsp_saving) (report_of dsp_chip dsp_saving)) answer
+        PreparesBy (stream_makes (to_come_of dsp_chip dsp_saving) (report_of dsp_chip dsp_saving)) answer
         (cuts_inputs names.entry.file.now names.entry.table.now names.entry.list.now) (H.state host.old) (H.state host.new) result }
 {
     let file = read_file(alloc, host, names.file)?;
@@ -139,7 +141,7 @@ pub fn cuts<H: Host>(
 ) -> Option<Refusal<Cause>>
     requires outputs { CanDeliver (H.state host.old) }
     ensures attempts { let answer = cuts_over wave.now muted in
-        Attempts answer (cuts_inputs file.now table.now list.now) result (H.state host.old) (H.state host.new) }
+        AttemptsBy at_once answer (cuts_inputs file.now table.now list.now) result (H.state host.old) (H.state host.new) }
     ensures not_usage { result ≡ Some Refusal.Usage → ⊥ }
 {
     let names = Names {

@@ -3,7 +3,9 @@ ghost use Rattle.std.specs.Prelude.{◌≡◌, IfOk, []};
 ghost use Rattle.command_runner.specs.NamedInputs.{Held};
 ghost use Rattle.command_runner.specs.Answer.{done};
 ghost use Rattle.snd_host.specs.Host.{HostState};
-ghost use Rattle.command_runner.specs.Conduct.{Plans, Attempts};
+ghost use Rattle.command_runner.specs.Conduct.{Plans};
+ghost use Rattle.command_runner.specs.OutputCalls.{at_once};
+ghost use Rattle.command_runner.specs.RunCalls.{AttemptsBy};
 ghost use Rattle.command_runner.specs.Delivery.{CanDeliver};
 ghost use Rattle.command_runner.specs.Plan.{plan_makes};
 ghost use Rattle.command_demo.specs.Demo.{demo_answer};
@@ -46,7 +48,7 @@ pub fn demo<H: Host>(
 ) -> Option<Refusal<Cause>>
     requires { CanDeliver (H.state host.old) }
     ensures attempts { let answer = λ (held : Held). demo_answer number output.now in
-        Attempts answer [] result (H.state host.old) (H.state host.new) }
+        AttemptsBy at_once answer [] result (H.state host.old) (H.state host.new) }
     ensures not_usage { result ≡ Some Refusal.Usage → ⊥ }
 {
     let prepared = plan(alloc, number, output);

@@ -3,7 +3,9 @@ ghost use Rattle.std.specs.Prelude.{◌≡◌, ◌++◌, OnOk, IfOk, [], ◌∷�
 ghost use Rattle.snd_host.specs.Host.{HostState};
 ghost use Rattle.input_files.specs.Reading.{wave_limit, input_up_to};
 ghost use Rattle.command_runner.specs.NamedInputs.{Held, first};
-ghost use Rattle.command_runner.specs.Conduct.{Plans, Prepares, Attempts};
+ghost use Rattle.command_runner.specs.Conduct.{Plans, PreparesBy};
+ghost use Rattle.command_runner.specs.OutputCalls.{at_once};
+ghost use Rattle.command_runner.specs.RunCalls.{AttemptsBy};
 ghost use Rattle.command_runner.specs.Delivery.{CanDeliver};
 ghost use Rattle.command_runner.specs.Plan.{plan_makes};
 ghost use Rattle.brr_search.specs.Options.{AreInRange};
@@ -125,7 +127,7 @@ fn prepare<'a, H: Host>(
 ) -> Result<Plan<'a>, Refusal<Cause>>
     requires { AreInRange options }
     ensures { let answer = λ (held : Held). encode_answer output.now options (first held) in
-        Prepares plan_makes answer (input_up_to wave_limit input.now ∷ []) (H.state host.old) (H.state host.new) result }
+        PreparesBy plan_makes answer (input_up_to wave_limit input.now ∷ []) (H.state host.old) (H.state host.new) result }
 {
     let bytes = read_input(alloc, host, input, WAVE_LIMIT, Cause::InputTooLong)?;
     plan(alloc, bytes.as_slice(), output, options)
@@ -144,7 +146,7 @@ pub fn encode<H: Host>(
     requires deliver { CanDeliver (H.state host.old) }
     requires in_range { AreInRange options }
     ensures attempts { let answer = λ (held : Held). encode_answer output.now options (first held) in
-        Attempts answer (input_up_to wave_limit input.now ∷ []) result (H.state host.old) (H.state host.new) }
+        AttemptsBy at_once answer (input_up_to wave_limit input.now ∷ []) result (H.state host.old) (H.state host.new) }
     ensures not_usage { result ≡ Some Refusal.Usage → ⊥ }
 {
     let prepared = prepare(alloc, host, input, output, options);

@@ -2,7 +2,9 @@
 ghost use Rattle.std.specs.Prelude.{◌≡◌, []};
 ghost use Rattle.snd_host.specs.Host.{HostState};
 ghost use Rattle.command_runner.specs.NamedInputs.{Held};
-ghost use Rattle.command_runner.specs.Conduct.{Plans, Attempts};
+ghost use Rattle.command_runner.specs.Conduct.{Plans};
+ghost use Rattle.command_runner.specs.OutputCalls.{at_once};
+ghost use Rattle.command_runner.specs.RunCalls.{AttemptsBy};
 ghost use Rattle.command_runner.specs.Delivery.{CanDeliver};
 ghost use Rattle.command_runner.specs.Plan.{plan_makes};
 ghost use Rattle.command_help.specs.Help.{help_text, version_text, help_answer, version_answer};
@@ -52,7 +54,7 @@ fn plan<'a>(alloc: Global, text: &[u8]) -> Result<Plan<'a>, Refusal<Cause>>
 pub fn help<H: Host>(alloc: Global, host: &mut H) -> Option<Refusal<Cause>>
     requires { CanDeliver (H.state host.old) }
     ensures attempts { let answer = λ (held : Held). help_answer in
-        Attempts answer [] result (H.state host.old) (H.state host.new) }
+        AttemptsBy at_once answer [] result (H.state host.old) (H.state host.new) }
     ensures not_usage { result ≡ Some Refusal.Usage → ⊥ }
 {
     let prepared = plan(alloc, HELP);
@@ -63,7 +65,7 @@ pub fn help<H: Host>(alloc: Global, host: &mut H) -> Option<Refusal<Cause>>
 pub fn version<H: Host>(alloc: Global, host: &mut H) -> Option<Refusal<Cause>>
     requires { CanDeliver (H.state host.old) }
     ensures attempts { let answer = λ (held : Held). version_answer in
-        Attempts answer [] result (H.state host.old) (H.state host.new) }
+        AttemptsBy at_once answer [] result (H.state host.old) (H.state host.new) }
     ensures not_usage { result ≡ Some Refusal.Usage → ⊥ }
 {
     let prepared = plan(alloc, VERSION);

@@ -3,7 +3,9 @@ ghost use Rattle.std.specs.Prelude.{◌≡◌, ◌++◌, OnOk, IfOk, length, cod
 ghost use Rattle.snd_host.specs.Host.{HostState};
 ghost use Rattle.input_files.specs.Inputs.{spc_input};
 ghost use Rattle.command_runner.specs.NamedInputs.{Held, first};
-ghost use Rattle.command_runner.specs.Conduct.{Plans, Prepares, Attempts};
+ghost use Rattle.command_runner.specs.Conduct.{Plans, PreparesBy};
+ghost use Rattle.command_runner.specs.OutputCalls.{at_once};
+ghost use Rattle.command_runner.specs.RunCalls.{AttemptsBy};
 ghost use Rattle.command_runner.specs.Delivery.{CanDeliver};
 ghost use Rattle.command_runner.specs.Plan.{plan_makes};
 ghost use Rattle.command_info.specs.Info.{tag_name, tag_line, tag_lines, register_text, counter_text, data_text, status_text, register_line, info_report, fields_answer, info_answer};
@@ -146,7 +148,7 @@ fn prepare<H: Host>(
     input: &str,
 ) -> Result<Plan<'static>, Refusal<Cause>>
     ensures { let answer = λ (held : Held). info_answer (first held) in
-        Prepares plan_makes answer (spc_input input.now ∷ []) (H.state host.old) (H.state host.new) result }
+        PreparesBy plan_makes answer (spc_input input.now ∷ []) (H.state host.old) (H.state host.new) result }
 {
     let bytes = read_input(
         alloc,
@@ -162,7 +164,7 @@ fn prepare<H: Host>(
 pub fn info<H: Host>(alloc: Global, host: &mut H, input: &str) -> Option<Refusal<Cause>>
     requires { CanDeliver (H.state host.old) }
     ensures attempts { let answer = λ (held : Held). info_answer (first held) in
-        Attempts answer (spc_input input.now ∷ []) result (H.state host.old) (H.state host.new) }
+        AttemptsBy at_once answer (spc_input input.now ∷ []) result (H.state host.old) (H.state host.new) }
     ensures not_usage { result ≡ Some Refusal.Usage → ⊥ }
 {
     let prepared = prepare(alloc, host, input);

@@ -6,7 +6,9 @@ ghost use Rattle.snd_host.specs.Host.{HostState, IfKnown};
 ghost use Rattle.input_files.specs.Inputs.{table_input};
 ghost use Rattle.command_runner.specs.NamedInputs.{Held, first, held_by};
 ghost use Rattle.command_runner.specs.Answer.{outputs_of};
-ghost use Rattle.command_runner.specs.Conduct.{Plans, Prepares, Attempts};
+ghost use Rattle.command_runner.specs.Conduct.{Plans, PreparesBy};
+ghost use Rattle.command_runner.specs.OutputCalls.{at_once};
+ghost use Rattle.command_runner.specs.RunCalls.{AttemptsBy};
 ghost use Rattle.command_runner.specs.Delivery.{CanDeliver};
 ghost use Rattle.command_runner.specs.Making.{MadeAtOnce};
 ghost use Rattle.command_runner.specs.Plan.{stream_makes};
@@ -116,7 +118,7 @@ fn prepare_with<'a, H: Host>(
 ) -> Result<StreamedPlan<'a, RenderFiles<Dsp>>, Refusal<Cause>>
     requires { SamplesWithinHour options.samples }
     ensures { let answer = λ (held : Held). file_answer wave.now (options_of options.entry) (first held) file.now in
-        Prepares (stream_makes (to_come_of dsp_chip) (report_of dsp_chip)) answer
+        PreparesBy (stream_makes (to_come_of dsp_chip) (report_of dsp_chip)) answer
         (table_input table.now ∷ []) (H.state host.old) (H.state host.new) result }
 {
     let table = read_table(alloc, host, table)?;
@@ -134,7 +136,7 @@ fn prepare<'a, H: Host>(
 ) -> Result<StreamedPlan<'a, RenderFiles<Dsp>>, Refusal<Cause>>
     requires { SamplesWithinHour options.samples }
     ensures { let answer = render_over wave.now (options_of options.entry) in
-        Prepares (stream_makes (to_come_of dsp_chip) (report_of dsp_chip)) answer
+        PreparesBy (stream_makes (to_come_of dsp_chip) (report_of dsp_chip)) answer
         (render_inputs file.now table.now) (H.state host.old) (H.state host.new) result }
 {
     let file = read_file(alloc, host, file)?;
@@ -153,10 +155,7 @@ pub fn render<H: Host>(
     requires outputs { CanDeliver (H.state host.old) }
     requires within_hour { SamplesWithinHour options.samples }
     ensures attempts { let answer = render_over wave.now (options_of options.entry) in
-        Attempts answer (render_inputs file.now table.now) result (H.state host.old) (H.state host.new) }
-    ensures at_once { let answer = render_over wave.now (options_of options.entry) in
-        IfKnown (H.state host.old).holds (λ files.
-        MadeAtOnce (outputs_of (answer (held_by files (render_inputs file.now table.now)))) (H.state host.old) (H.state host.new)) }
+        AttemptsBy at_once answer (render_inputs file.now table.now) result (H.state host.old) (H.state host.new) }
     ensures not_usage { result ≡ Some Refusal.Usage → ⊥ }
 {
     let prepared = prepare(alloc, host, file, table, wave, options);

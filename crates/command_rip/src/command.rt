@@ -7,10 +7,11 @@ ghost use Rattle.snd_host.specs.Host.{HostState};
 ghost use Rattle.input_files.specs.Inputs.{spc_input};
 ghost use Rattle.command_runner.specs.NamedInputs.{Held, first};
 ghost use Rattle.command_runner.specs.Answer.{done};
-ghost use Rattle.command_runner.specs.Conduct.{Plans, AttemptsInTurn};
+ghost use Rattle.command_runner.specs.Conduct.{Plans};
+ghost use Rattle.command_runner.specs.OutputCalls.{in_turn};
+ghost use Rattle.command_runner.specs.RunCalls.{AttemptsBy};
 ghost use Rattle.command_runner.specs.Delivery.{CanDeliverAll};
 ghost use Rattle.command_runner.specs.Listed.{listed_output, list_makes};
-ghost use Rattle.command_runner.specs.Making.{MadeInTurn};
 ghost use Rattle.command_rip.specs.Pieces.{to_come_of};
 ghost use Rattle.command_rip.specs.Rip.{wanted_in, directory_page, entry_name, entry_output, entries_answer, file_answer, rip_answer};
 
@@ -139,8 +140,7 @@ pub fn rip<H: Host>(
 ) -> Option<Refusal<Cause>>
     requires { CanDeliverAll max_entries (H.state host.old) }
     ensures attempts { let answer = λ (held : Held). rip_answer prefix.now range (first held) in
-        AttemptsInTurn answer (spc_input input.now ∷ []) result (H.state host.old) (H.state host.new) }
-    ensures in_turn { MadeInTurn (H.state host.old) (H.state host.new) }
+        AttemptsBy in_turn answer (spc_input input.now ∷ []) result (H.state host.old) (H.state host.new) }
     ensures not_usage { result ≡ Some Refusal.Usage → ⊥ }
 {
     let file = match read_file(alloc, host, input) {

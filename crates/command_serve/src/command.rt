@@ -6,7 +6,9 @@ ghost use Rattle.snd_host.specs.Host.{HostState};
 ghost use Rattle.input_files.specs.Reading.{input_limit, input_up_to};
 ghost use Rattle.input_files.specs.Inputs.{table_input};
 ghost use Rattle.command_runner.specs.NamedInputs.{Held, first, second};
-ghost use Rattle.command_runner.specs.Conduct.{Plans, Prepares, Attempts};
+ghost use Rattle.command_runner.specs.Conduct.{Plans, PreparesBy};
+ghost use Rattle.command_runner.specs.OutputCalls.{at_once};
+ghost use Rattle.command_runner.specs.RunCalls.{AttemptsBy};
 ghost use Rattle.command_runner.specs.Delivery.{CanDeliver};
 ghost use Rattle.command_runner.specs.Plan.{stream_makes};
 ghost use Rattle.cut_form.specs.Session.{played_cuts};
@@ -93,7 +95,7 @@ fn prepare_script<'a, H: Host>(
 ) -> Result<StreamedPlan<'a, SessionFiles<Dsp>>, Refusal<Cause>>
     requires { AreOptionsInRange options }
     ensures { let answer = λ (held : Held). table_answer names.entry.wave.now options (first held) file.now table in
-        Prepares (stream_makes (to_come_of dsp_chip dsp_saving) (report_of dsp_chip dsp_saving)) answer
+        PreparesBy (stream_makes (to_come_of dsp_chip dsp_saving) (report_of dsp_chip dsp_saving)) answer
         (input_up_to input_limit names.entry.script.now ∷ []) (H.state host.old) (H.state host.new) result }
 {
     let lines = read_lines(alloc, host, names.script)?;
@@ -110,7 +112,7 @@ fn prepare_table<'a, H: Host>(
 ) -> Result<StreamedPlan<'a, SessionFiles<Dsp>>, Refusal<Cause>>
     requires { AreOptionsInRange options }
     ensures { let answer = λ (held : Held). file_answer names.entry.wave.now options (first held) (second held) file.now in
-        Prepares (stream_makes (to_come_of dsp_chip dsp_saving) (report_of dsp_chip dsp_saving)) answer
+        PreparesBy (stream_makes (to_come_of dsp_chip dsp_saving) (report_of dsp_chip dsp_saving)) answer
         (table_input names.entry.table.now ∷ input_up_to input_limit names.entry.script.now ∷ []) (H.state host.old) (H.state host.new) result }
 {
     let table = read_table(alloc, host, names.table)?;
@@ -126,7 +128,7 @@ fn prepare<'a, H: Host>(
 ) -> Result<StreamedPlan<'a, SessionFiles<Dsp>>, Refusal<Cause>>
     requires { AreOptionsInRange options }
     ensures { let answer = serve_over names.entry.wave.now options in
-        Prepares (stream_makes (to_come_of dsp_chip dsp_saving) (report_of dsp_chip dsp_saving)) answer
+        PreparesBy (stream_makes (to_come_of dsp_chip dsp_saving) (report_of dsp_chip dsp_saving)) answer
         (serve_inputs names.entry.file.now names.entry.table.now names.entry.script.now) (H.state host.old) (H.state host.new) result }
 {
     let file = read_file(alloc, host, names.file)?;
@@ -147,7 +149,7 @@ pub fn serve<H: Host>(
     requires outputs { CanDeliver (H.state host.old) }
     requires pages { AreOptionsInRange options }
     ensures attempts { let answer = serve_over wave.now options in
-        Attempts answer (serve_inputs file.now table.now script.now) result (H.state host.old) (H.state host.new) }
+        AttemptsBy at_once answer (serve_inputs file.now table.now script.now) result (H.state host.old) (H.state host.new) }
     ensures not_usage { result ≡ Some Refusal.Usage → ⊥ }
 {
     let names = Names {

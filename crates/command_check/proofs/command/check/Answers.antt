@@ -1,7 +1,7 @@
 use Rattle.std.proofs.Common.{rules}
 use Rattle.command_runner.specs.Plan.{plan_makes}
 use Rattle.command_check.specs.Check.{check_answer}
-use Rattle.command_runner.proofs.Unread.{attempts_unread}
+use Rattle.command_runner.proofs.Attempting.{attempts_unread}
 use Rattle.command_check.proofs.command.check.Goals as goal
 
 pub returns-clause-attempts : goal.returns-clause-attempts
