@@ -1,2 +1,2 @@
--- Clauses: the clauses of a run, from what its command did.
-pub mod Clauses
+-- Runs: a run is what its command did, and then its complaint.
+pub mod Runs

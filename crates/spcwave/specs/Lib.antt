@@ -1,4 +1,4 @@
+-- how many outputs a host may have created before a run
+pub mod FewOutputs
 -- what comes of what the command line gives
 pub mod Given
--- the clauses of the top call: what a run does
-pub mod RunClauses

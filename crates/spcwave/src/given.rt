@@ -2,7 +2,7 @@
 ghost use Rattle.std.specs.Prelude.{◌≡◌, ◌≢◌, IfOk, IfErr};
 ghost use Rattle.std.specs.IoError.{error_kind};
 ghost use Rattle.snd_host.specs.Host.{HostState};
-ghost use Rattle.spcwave.specs.RunClauses.{HasFewOutputs};
+ghost use Rattle.spcwave.specs.FewOutputs.{HasFewOutputs};
 ghost use Rattle.spcwave.specs.Given.{EndsAsGiven, ExitsWith};
 
 use crate::run::run;

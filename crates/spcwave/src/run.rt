@@ -1,10 +1,12 @@
 // The whole program over any host.
 ghost use Rattle.std.specs.Prelude.{◌≡◌, ◌↔◌, map, string_bytes};
 ghost use Rattle.snd_host.specs.Host.{HostState};
-ghost use Rattle.command_runner.specs.Conduct.{AttemptsAs};
+ghost use Rattle.command_runner.specs.RunCalls.{AttemptsBy};
 ghost use Rattle.command_line.specs.Command.{command_of, usage};
+ghost use Rattle.command_line.specs.Meaning.{meaning_of, AreInRange};
 ghost use Rattle.run_laws.specs.Answers.{answer_by, inputs_of, order_of};
-ghost use Rattle.spcwave.specs.RunClauses.{HasFewOutputs, MakesOutputs, IsRun};
+ghost use Rattle.run_laws.specs.Run.{IsRun};
+ghost use Rattle.spcwave.specs.FewOutputs.{HasFewOutputs};
 
 use command_asm::asm;
 use command_brr::brr;
@@ -24,15 +26,15 @@ use exit_status::{Cause, Status, status_for};
 use snd_host::Host;
 use std::alloc::Global;
 
-/// Does what the words say, but for the complaint.
-fn attempt<H: Host>(alloc: Global, words: &[String], host: &mut H) -> Option<Refusal<Cause>>
-    requires { HasFewOutputs (H.state host.old) }
-    ensures attempts { let command = command_of (map string_bytes words.now) in
-        AttemptsAs (order_of command) (answer_by command) (inputs_of command) result (H.state host.old) (H.state host.new) }
-    ensures making { MakesOutputs (command_of (map string_bytes words.now)) (H.state host.old) (H.state host.new) }
-    ensures misread { (result ≡ Some Refusal.Usage) ↔ (command_of (map string_bytes words.now) ≡ usage) }
+/// Does what a command says, but for the complaint.
+fn obey<H: Host>(alloc: Global, command: Command<'_>, host: &mut H) -> Option<Refusal<Cause>>
+    requires outputs { HasFewOutputs (H.state host.old) }
+    requires in_range { AreInRange command }
+    ensures attempts { let known = meaning_of command.entry in
+        AttemptsBy (order_of known) (answer_by known) (inputs_of known) result (H.state host.old) (H.state host.new) }
+    ensures misread { (result ≡ Some Refusal.Usage) ↔ (meaning_of command.entry ≡ usage) }
 {
-    match read_words(words) {
+    match command {
         Command::Usage => Some(Refusal::Usage),
         Command::Help => help(alloc, host),
         Command::Version => version(alloc, host),
@@ -81,6 +83,16 @@ fn attempt<H: Host>(alloc: Global, words: &[String], host: &mut H) -> Option<Ref
             options,
         } => serve(alloc, host, file, table, script, wave, options),
     }
+}
+
+/// Does what the words say, but for the complaint.
+fn attempt<H: Host>(alloc: Global, words: &[String], host: &mut H) -> Option<Refusal<Cause>>
+    requires { HasFewOutputs (H.state host.old) }
+    ensures attempts { let command = command_of (map string_bytes words.now) in
+        AttemptsBy (order_of command) (answer_by command) (inputs_of command) result (H.state host.old) (H.state host.new) }
+    ensures misread { (result ≡ Some Refusal.Usage) ↔ (command_of (map string_bytes words.now) ≡ usage) }
+{
+    obey(alloc, read_words(words), host)
 }
 
 /// Does what the words say, and answers how it ended. `words` are those after the program's name.
