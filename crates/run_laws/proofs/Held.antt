@@ -40,7 +40,7 @@ left_of-reads files file (not_written n piece ∷ xs) history each all = absurd 
 left_of-reads files file (finished n ∷ xs) history each all = absurd each.0
 left_of-reads files file (not_finished n ∷ xs) history each all = absurd each.0
 
-is_there : (held : Option (List ℕ)) → IsSome held → held ≡ Some (unwrap_or held [])
+pub is_there : (held : Option (List ℕ)) → IsSome held → held ≡ Some (unwrap_or held [])
 is_there held there = search rules
 
 -- what a name holds, and that an input of it gave the front of that, up to the limit and one byte

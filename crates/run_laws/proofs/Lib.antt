@@ -7,6 +7,7 @@ pub mod Fitting
 pub mod Given
 pub mod GoesByInputs
 pub mod Held
+pub mod Known
 pub mod Making
 pub mod OfRuns
 pub mod Parting
@@ -15,4 +16,5 @@ pub mod Rooms
 pub mod RoomsKept
 pub mod Runs
 pub mod Steadily
+pub mod SteadyRuns
 pub mod Unwritten

@@ -7,6 +7,7 @@ use Rattle.snd_host.specs.Calls.{Call}
 use Rattle.snd_host.specs.Host.{Output, IsPrefix, next_count, Rose}
 use Rattle.snd_host.specs.Follows.{pushed, bytes_written, IsCut, AreWrites}
 use Rattle.snd_host.proofs.CallsInOrder.{pushed_more}
+use Rattle.snd_host.proofs.Writes.{rose}
 use Rattle.command_runner.specs.Answer.{Answer, refusal_of, outputs_of}
 use Rattle.command_runner.specs.Delivery.{all_ended}
 use Rattle.command_runner.specs.NamedInputs.{NamedInput, Held, held_of, are_some}
@@ -54,9 +55,6 @@ record Complained (line : List ℕ) (before now : Counts) : Type 0 where
   all : (Rose before.notes now.notes → ⊥) → complaint ≡ line
   once : (now.notes ≡ before.notes) ⊎ (now.notes ≡ next_count before.notes)
   none : line ≡ [] → now.notes ≡ before.notes
-
-rose : (before now : ℕ) → now ≡ next_count before → Rose before now
-rose before now is = omega arith
 
 noted_counts : (line : List ℕ) (note history : List Call) → AreNoted line note → Complained line (counts_of history) (counts_of (pushed note history))
 noted_counts line note history (inl writes) =
@@ -150,7 +148,7 @@ module _ (order : Order) (answer : Held → Answer Cause) (inputs : List NamedIn
 
   -- The complaint.
 
-  line_is : status_line status answered ≡ end_line run.refusal
+  pub line_is : status_line status answered ≡ end_line run.refusal
   line_is = ap end_line (ap (λ (s : Status). unwrap_or (end_without_numbers s) (refusal_of answered)) run.status_is ∙ line_end run.refusal answered end)
 
   notes_before : note_faults attempted ≡ note_faults old
@@ -171,6 +169,14 @@ module _ (order : Order) (answer : Held → Answer Cause) (inputs : List NamedIn
       once : (note_faults (pushed run.note attempted) ≡ note_faults attempted) ⊎ (note_faults (pushed run.note attempted) ≡ next_count (note_faults attempted)) → (note_faults (pushed run.note attempted) ≡ note_faults old) ⊎ (note_faults (pushed run.note attempted) ≡ next_count (note_faults old))
       once (inl same) = inl (same ∙ notes_before)
       once (inr one) = inr (one ∙ ap next_count notes_before)
+
+  -- Where no write of it failed, the count of notes is what it was.
+  pub notes_kept : (IsCut (AreWrites 1 (end_line run.refusal)) run.note → ⊥) → note_faults new ≡ note_faults old
+  notes_kept not_cut = by run.complaint
+    where
+      by : AreNoted (end_line run.refusal) run.note → note_faults new ≡ note_faults old
+      by (inl writes) = ap note_faults new_is ∙ ap (λ (c : Counts). c.notes) (note_counts (end_line run.refusal) run.note attempted writes) ∙ notes_before
+      by (inr cut) = absurd (not_cut cut)
 
   -- Counts.
 

@@ -19,12 +19,14 @@ pub use laws::{
     words_that_say_no_command_want_no_memory,
 };
 pub use steadiness::{
-    a_command_leaves_the_room_of_its_complaint, on_a_steady_host_only_an_absent_input_fails,
-    with_room_no_call_for_outputs_fails, with_room_no_command_ends_in_a_failed_write,
-    with_room_no_write_of_the_complaint_fails,
+    on_a_steady_host_inputs_are_read, on_a_steady_host_no_input_fails_that_is_there,
+    with_room_a_run_ends_as_the_names_say, with_room_no_complaint_fails, with_room_no_output_fails,
+    with_room_no_plain_complaint_fails,
 };
 pub use truth::{
-    a_command_answers_by_what_the_names_hold, an_input_that_was_opened_is_there,
-    every_answer_goes_by_the_inputs, no_call_fails_for_no_input,
-    what_was_given_is_what_the_names_hold,
+    a_run_that_ends_as_the_names_say_leaves_all, a_run_without_faults_ends_as_the_names_say,
+    a_status_is_true_of_what_the_names_hold, every_answer_goes_by_the_inputs,
+    the_complaint_has_the_numbers_of_what_the_names_hold,
+    the_report_of_what_the_names_hold_comes_last, what_could_not_be_written_is_left_in_part,
+    what_could_not_be_written_was_answered, what_was_read_answers_as_what_the_names_hold,
 };

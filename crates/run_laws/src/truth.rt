@@ -1,41 +1,66 @@
 //! What follows where it is known what the names hold.
-ghost use Rattle.std.specs.Prelude.{◌≡◌, ◌∷◌, ◌++◌, ℕ, List, [], IsSome};
-ghost use Rattle.snd_host.specs.Calls.{Call, opened};
-ghost use Rattle.snd_host.specs.Host.{Files};
-ghost use Rattle.snd_host.specs.Follows.{IsCut};
-ghost use Rattle.command_runner.specs.Answer.{Answer};
-ghost use Rattle.command_runner.specs.NamedInputs.{NamedInput, Held, held_by, held_of, TakesInOrder};
+ghost use Rattle.std.specs.Prelude.{◌≡◌, ◌≢◌, ◌⊎◌};
+ghost use Rattle.snd_host.specs.Host.{HostState, IfKnown};
 ghost use Rattle.command_line.specs.Command.{Command};
+ghost use Rattle.exit_status.specs.Lines.{status_line};
+ghost use Rattle.exit_status.specs.Statuses.{answer_status};
+ghost use Rattle.exit_status.specs.declared.status.Status.{Status};
+ghost use Rattle.exit_status.specs.declared.status.Status.TheVariants as statuses;
 ghost use Rattle.run_laws.specs.Answers.{answer_by, answer_of, inputs_of};
 ghost use Rattle.run_laws.specs.GoesBy.{GoesBy};
-ghost use Rattle.snd_host.specs.History.{AreTrueOf};
-
-/// What is answered by the bytes that the reads gave is what is answered by what the names hold.
-pub fn what_was_given_is_what_the_names_hold<C>()
-    ensures { (files : Files) (inputs : List NamedInput) (answer : Held → Answer C) (given : List (List ℕ)) (taken history : List Call) →
-        GoesBy inputs answer → TakesInOrder inputs given taken → AreTrueOf files history taken →
-        answer (held_of given) ≡ answer (held_by files inputs) }
-{}
+ghost use Rattle.run_laws.specs.Left.{LeavesAll, LeavesPart, ReportsLast, Complains, NoneRose};
+ghost use Rattle.run_laws.specs.Run.{IsRun, answered};
 
 /// What every command answers goes by its inputs in their order, and by no more of one than its limit and one byte.
 pub fn every_answer_goes_by_the_inputs()
     ensures { (command : Command) → GoesBy (inputs_of command) (answer_by command) }
 {}
 
-/// So a command answers by the bytes that it read what it answers by what the names hold.
-pub fn a_command_answers_by_what_the_names_hold()
-    ensures { (command : Command) (files : Files) (given : List (List ℕ)) (taken history : List Call) →
-        TakesInOrder (inputs_of command) given taken → AreTrueOf files history taken →
-        answer_by command (held_of given) ≡ answer_of command files }
+/// So where the inputs were read, the answer by what they gave is the answer by what their names hold.
+pub fn what_was_read_answers_as_what_the_names_hold()
+    ensures { (command : Command) (old new : HostState) (status : Status) (run : IsRun command old new status) → IfKnown old.holds (λ files.
+        status ≢ statuses.ReadFault → status ≢ statuses.OutOfMemory → answered run ≡ answer_of command files) }
 {}
 
-/// An input is opened only where it is there.
-pub fn an_input_that_was_opened_is_there()
-    ensures { (files : Files) (history before after : List Call) (name : List ℕ) (file : ℕ) →
-        AreTrueOf files history (before ++ opened name file ∷ after) → IsSome (files name) }
+/// Where the status is the answer's, its outputs were created with all their bytes and ended, and its report was written.
+pub fn a_run_that_ends_as_the_names_say_leaves_all()
+    ensures { (command : Command) (old new : HostState) (status : Status) (run : IsRun command old new status) → IfKnown old.holds (λ files.
+        status ≡ answer_status (answer_of command files) → LeavesAll (answer_of command files) old.calls new.calls) }
 {}
 
-/// Without inputs no call for one fails.
-pub fn no_call_fails_for_no_input()
-    ensures { (given : List (List ℕ)) (taken : List Call) → IsCut (TakesInOrder [] given) taken → ⊥ }
+/// Where the report grew, the outputs of the answer were created before, with all their bytes, and ended.
+pub fn the_report_of_what_the_names_hold_comes_last()
+    ensures { (command : Command) (old new : HostState) (status : Status) (run : IsRun command old new status) → IfKnown old.holds (λ files.
+        ReportsLast (answer_of command files) old.calls new.calls) }
+{}
+
+/// The complaint grew by the line of the status, with the numbers of the answer, or by a prefix of it where a write failed.
+pub fn the_complaint_has_the_numbers_of_what_the_names_hold()
+    ensures { (command : Command) (old new : HostState) (status : Status) (run : IsRun command old new status) → IfKnown old.holds (λ files.
+        Complains (status_line status (answer_of command files)) old.calls new.calls) }
+{}
+
+/// Where an output or the report could not be written, the answer was not refused.
+pub fn what_could_not_be_written_was_answered()
+    ensures { (command : Command) (old new : HostState) (status : Status) (run : IsRun command old new status) → IfKnown old.holds (λ files.
+        status ≡ statuses.WriteFault → answer_status (answer_of command files) ≡ statuses.Ok) }
+{}
+
+/// There a part of what the answer says was left.
+pub fn what_could_not_be_written_is_left_in_part()
+    ensures { (command : Command) (old new : HostState) (status : Status) (run : IsRun command old new status) → IfKnown old.holds (λ files.
+        status ≡ statuses.WriteFault → LeavesPart (answer_of command files) old.calls new.calls) }
+{}
+
+/// Each status but three is that of the answer.
+pub fn a_status_is_true_of_what_the_names_hold()
+    ensures { (command : Command) (old new : HostState) (status : Status) (run : IsRun command old new status) → IfKnown old.holds (λ files.
+        (status ≡ answer_status (answer_of command files)) ⊎ (status ≡ statuses.ReadFault)
+        ⊎ (status ≡ statuses.WriteFault) ⊎ (status ≡ statuses.OutOfMemory)) }
+{}
+
+/// Where no count of faults rose, the status is that of the answer, or memory was wanting.
+pub fn a_run_without_faults_ends_as_the_names_say()
+    ensures { (command : Command) (old new : HostState) (status : Status) (run : IsRun command old new status) → IfKnown old.holds (λ files.
+        NoneRose old.calls new.calls → (status ≡ answer_status (answer_of command files)) ⊎ (status ≡ statuses.OutOfMemory)) }
 {}
