@@ -108,7 +108,7 @@ def bass():
 
 
 def bell():
-    """A struck bar: partials at 1, 2.75 and 5.5, which all come round in 256 samples."""
+    """A struck bar: partials at 1, 2.75 and 5.5, each with whole periods in 256 samples."""
     length = 6144
     parts = [(4, 1, 9000), (8, .12, 5000), (11, .42, 2200), (22, .22, 900)]
     wave = [sum(a * math.exp(-min(n, length) / fall) * math.sin(2 * math.pi * h * n / 256) for h, a, fall in parts)

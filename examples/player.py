@@ -49,16 +49,16 @@ class Player:
         self.lib.spcwave_tagged.argtypes, self.lib.spcwave_tagged.restype = [handle], ctypes.c_bool
         self.lib.spcwave_registers.argtypes, self.lib.spcwave_registers.restype = [handle, ctypes.c_char_p], None
         self.lib.spcwave_voice.argtypes = [handle, number, ctypes.POINTER(Voice)]
-        self.told(self.lib.spcwave_open(self.handle, spc, len(spc), table, len(table), Options(ctypes.sizeof(Options), pages, mark_seconds, muted)))
+        self.check(self.lib.spcwave_open(self.handle, spc, len(spc), table, len(table), Options(ctypes.sizeof(Options), pages, mark_seconds, muted)))
 
-    def told(self, status):
+    def check(self, status):
         if status:
             raise ValueError(self.NAMES.get(status, status))
 
     def inspect(self, spc):
-        """What the bytes of any SPC file tell: `frames`, `fade`, `tagged`, `timed`, and in `tags` where the texts of the tags stand."""
+        """What the bytes of any SPC file say: `frames`, `fade`, `tagged`, `timed`, and in `tags` where the texts of the tags are."""
         info = Info(ctypes.sizeof(Info))
-        self.told(self.lib.spcwave_inspect(spc, len(spc), info))
+        self.check(self.lib.spcwave_inspect(spc, len(spc), info))
         return info
 
     def length(self):
@@ -83,13 +83,13 @@ class Player:
         return self.lib.spcwave_free_pages(self.handle)
 
     def seek(self, frame):
-        self.told(self.lib.spcwave_seek(self.handle, frame))
+        self.check(self.lib.spcwave_seek(self.handle, frame))
 
-    def seek_some(self, frame, most):
-        """Goes towards a frame, and makes so many frames for it at most; tells whether it is there."""
-        status = self.lib.spcwave_seek_some(self.handle, frame, most)
+    def seek_some(self, frame, count):
+        """Goes towards a frame by running at most `count` frames; returns whether it is there."""
+        status = self.lib.spcwave_seek_some(self.handle, frame, count)
         if status != self.NOT_YET:
-            self.told(status)
+            self.check(status)
         return status != self.NOT_YET
 
     def mark(self):
@@ -101,7 +101,7 @@ class Player:
 
     def set_end(self, frames, fade):
         """The length to which `play` plays with the fade, and its last frames that fade out."""
-        self.told(self.lib.spcwave_set_end(self.handle, frames, fade))
+        self.check(self.lib.spcwave_set_end(self.handle, frames, fade))
 
     def play(self, count, faded=False):
         room = ctypes.create_string_buffer(4 * count)
@@ -117,7 +117,7 @@ class Player:
     def voice(self, number):
         """The level, pitch, output and source of a voice at the position."""
         voice = Voice()
-        self.told(self.lib.spcwave_voice(self.handle, number, voice))
+        self.check(self.lib.spcwave_voice(self.handle, number, voice))
         return voice
 
     def close(self):

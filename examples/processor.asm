@@ -10,7 +10,7 @@
 ;
 ; What a test may read and write, filled anew before each:
 ;   0040-005F, 0140-015F         data in both direct pages, from the table at 0A00
-;   01F8-01FF and on, 0100-0107  a stack round the end of its page, from the table at 0B00
+;   01F8-01FF and on, 0100-0107  a stack that wraps at the end of its page, from the table at 0B00
 ;
 ; A test has ten bytes: A, X, Y, PSW, SP, the instruction's three bytes, and where its data and its stack begin in
 ; the tables. The pads of calls stand from FF00 on.
@@ -82,7 +82,7 @@ fill_stack:
     POP PSW
     BRA instruction
 
-; A pad tells its number and changes neither registers nor flags. PSW says which direct page it writes to.
+; A pad stores its number and changes neither registers nor flags. PSW says which direct page it writes to.
 pad_before:
     MOV $0C,#$01
     JMP !save

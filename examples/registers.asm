@@ -1,7 +1,7 @@
-; WHAT A DRIVER READS, HEARD: timers, ports, and the registers of the S-DSP that tell of voices. It obeys a script that
+; WHAT A DRIVER READS, HEARD: timers, ports, and the registers of the S-DSP that show its voices. It executes a script that
 ; tools/conformance puts beside it, and plays the bytes that it reads as volumes of a voice whose wave is a constant.
 ;
-; Who writes an engine learns from a recording alone what a driver would read there, and when. A test of the script is
+; A recording alone then shows what a driver would read on an engine, and when. A test of the script is
 ; a few commands: a timer is started, so many cycles pass, its counter is read twice, and both bytes are played. How long
 ; it lasts may differ from engine to engine, since it may wait for what comes by a clock of the sound chip's own.
 ;

@@ -31,7 +31,7 @@ static void SDLCALL play(void *data, Uint8 *bytes, int size) {
     SDL_memset(bytes + played * sizeof(spcwave_frame), 0, (wanted - played) * sizeof(spcwave_frame));
 }
 
-/* Does a slice of a seek's work, and tells whether there is more. Voices are muted at frame 0, where that costs nothing; the way back is sought. */
+/* Does a slice of a seek's work, and returns whether there is more. Voices are muted at frame 0, where that costs nothing; the way back is sought. */
 static bool do_slice(tune *it) {
     bool is_seeking;
     SDL_LockMutex(it->lock);
@@ -112,7 +112,7 @@ static uint32_t open_tune(tune *it, const char *name) {
     return status;
 }
 
-/* Does what a key or the mouse asks for, and tells whether that was to end. */
+/* Does what a key or the mouse asks for, and returns whether that was to end. */
 static bool obey(tune *it, const SDL_Event *event, SDL_AudioDeviceID device) {
     SDL_Keycode key = event->type == SDL_KEYDOWN ? event->key.keysym.sym : SDLK_UNKNOWN;
     if (key == SDLK_LEFT) ask(it, place_of(it) - STEP, 0);

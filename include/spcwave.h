@@ -13,7 +13,9 @@
  * n is the same whatever was played, sought, marked or muted before. It depends on the file, on the table and on the voices that are muted now.
  * That of spcwave_play_faded depends on the end and the fade too. The contract of every exported call is proved. As long as you keep the rules,
  * what it returns, what it writes and what it leaves as it was are what stands below. Only tested are what a null pointer does, that the stack
- * below is enough, spcwave_status_text, and that SPCWAVE_OUT_OF_MEMORY is returned for want of memory alone.
+ * below is enough, what stands under Memory, that this header declares what the library exports, spcwave_status_text, and that
+ * SPCWAVE_OUT_OF_MEMORY is returned for want of memory alone. That two players share nothing holds by the language of the library's sources, and
+ * from which level a voice sounds is seen by reading.
  *
  * The rules. None of them is checked:
  *  - A player that is passed to a call was opened by spcwave_open and isn't closed yet.
@@ -120,7 +122,8 @@ typedef struct spcwave_voice_shown {
     uint16_t level;   /* of its envelope, 0 to 2,047: that at which its next sample sounds; but right after the sample in which it was keyed
                          on, the level from before the key-on */
     uint16_t pitch;   /* of its registers, 0 to 16,383: at 4,096 it plays 32,000 numbers of its sample a second */
-    int16_t output;   /* the high byte of its output, -128 to 127, as the register OUTX has it */
+    int16_t output;   /* its register OUTX, -128 to 127: the high byte of its output, unless the program wrote there since; at frame 0 the byte
+                         of the file */
     uint16_t source;  /* the number of its sample in the directory, 0 to 255 */
 } spcwave_voice_shown;
 
@@ -132,10 +135,11 @@ SPCWAVE_API uint32_t spcwave_version(void);
 SPCWAVE_API uint32_t spcwave_inspect(const uint8_t *spc, size_t spc_length, spcwave_info *info);
 
 /* Opens a player at frame 0 of a tune. `table` is the table of 512 weights by which voices interpolate, 16 bits each, low byte first:
- * spcwave_table.h has the console's. Returns OK, and writes the player to `*player`; OUT_OF_RANGE where an option is out of its range, or
- * options->size isn't sizeof(spcwave_options); SPC_LENGTH or SPC_SIGNATURE where the bytes are no SPC file; TABLE_LENGTH; or OUT_OF_MEMORY.
- * Unless it is OK `*player` stays as it was. Before the call `*player` may hold anything but an open player: close that one first. Afterwards the
- * file, the table and the options aren't needed any more. */
+ * spcwave_table.h has the console's. Returns OUT_OF_RANGE where an option is out of its range, or options->size isn't sizeof(spcwave_options); else
+ * SPC_LENGTH or SPC_SIGNATURE where the bytes are no SPC file; else TABLE_LENGTH where the table has another length. It returns each of these also
+ * where memory is short. Else it returns OK, and writes the player to `*player`; or OUT_OF_MEMORY. Unless it is OK `*player` stays as it was. Before
+ * the call `*player` may hold anything but an open player: close that one first. Afterwards the file, the table and the options aren't needed any
+ * more. */
 SPCWAVE_API uint32_t spcwave_open(spcwave_player **player, const uint8_t *spc, size_t spc_length, const uint8_t *table, size_t table_length,
                                   const spcwave_options *options);
 
@@ -147,8 +151,9 @@ SPCWAVE_API void spcwave_close(spcwave_player **player);
  * goes on past the length of the tune, and fades nothing. */
 SPCWAVE_API size_t spcwave_play(spcwave_player *player, spcwave_frame *frames, size_t count);
 
-/* Plays as spcwave_play does, but to the end of the tune, over the last frames of which the sound fades out. Returns 0 from the end on. The end and
- * the fade are those that spcwave_length gives, until spcwave_set_end sets others. */
+/* Plays as spcwave_play does, but to the end of the tune, over the last frames of which the sound fades out: in a straight line, to nothing at the
+ * last frame, as `spcwave render` writes it. Returns 0 from the end on. The end and the fade are those that spcwave_length gives, until
+ * spcwave_set_end sets others. */
 SPCWAVE_API size_t spcwave_play_faded(spcwave_player *player, spcwave_frame *frames, size_t count);
 
 /* Sets the end of the tune for spcwave_play_faded: `frames` is its length from frame 0 on, 0 to SPCWAVE_MAX_FRAMES, and its last `fade` frames fade

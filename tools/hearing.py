@@ -10,7 +10,7 @@ import register_rules
 
 RATE = 32000
 CYCLES_PER_SAMPLE = 32          # of the processor
-LOUD = 0.25                     # of the greatest sample: the marks are above it, silence is below
+THRESHOLD = 0.25                # of the peak: the marks are above it, silence is below
 
 
 def read(path):
@@ -33,11 +33,11 @@ class Recording:
 
     def __init__(self, path, slots):
         self.left, self.right, rate = read(path)
-        greatest = max(map(abs, self.left), default=0)
-        if greatest < 1000:
+        peak = max(map(abs, self.left), default=0)
+        if peak < 1000:
             raise SystemExit('%s: nothing is heard' % path)
-        self.start = next(at for at, level in enumerate(self.left) if abs(level) > LOUD * greatest)
-        self.end = next(at for at in range(len(self.left) - 1, 0, -1) if abs(self.left[at]) > LOUD * greatest)
+        self.start = next(at for at, level in enumerate(self.left) if abs(level) > THRESHOLD * peak)
+        self.end = next(at for at in range(len(self.left) - 1, 0, -1) if abs(self.left[at]) > THRESHOLD * peak)
         self.first, last = slots[0][0], slots[-1][0]
         self.step = (self.end - self.start) / (last - self.first)
         self.stretch = self.step * RATE / rate - 1
@@ -165,10 +165,10 @@ class Reads:
     def __init__(self, path):
         self.left, self.right, rate = read(path)
         self.frames = rate / RATE / CYCLES_PER_SAMPLE       # of a cycle
-        greatest = max(map(abs, self.left), default=0)
-        if greatest < 1000:
+        peak = max(map(abs, self.left), default=0)
+        if peak < 1000:
             raise SystemExit('%s: nothing is heard' % path)
-        self.place = next(at for at, level in enumerate(self.left) if abs(level) > LOUD * greatest)
+        self.place = next(at for at, level in enumerate(self.left) if abs(level) > THRESHOLD * peak)
         self.units = [sum(self.level(side, (at + 0.5) * register_rules.MARK_PAIR) * (1, -1)[at % 2] for at in range(8)) / 8 / 127
                       for side in (self.left, self.right)]
         if min(map(abs, self.units)) < 1:
@@ -176,15 +176,15 @@ class Reads:
         self.place += round(9 * register_rules.MARK_PAIR * self.frames)
 
     def level(self, side, cycles):
-        """The level about three samples round so many cycles from the place."""
+        """The level of about three samples around so many cycles after the current position."""
         middle, reach = self.place + cycles * self.frames, 3 * CYCLES_PER_SAMPLE * self.frames
         heard = side[round(middle - reach):round(middle + reach) + 1]
         return sum(heard) / len(heard) if heard else 0
 
     def test(self, count):
         """So many bytes of the test that comes next; None where no more is heard."""
-        loud = 0.5 * 127 * abs(self.units[0])
-        self.place = next((at for at in range(self.place, len(self.left)) if abs(self.left[at]) > loud), None)
+        threshold = 0.5 * 127 * abs(self.units[0])
+        self.place = next((at for at in range(self.place, len(self.left)) if abs(self.left[at]) > threshold), None)
         if self.place is None:
             return None
         heard = [round(self.level(side, (pair + 1.5) * register_rules.PAIR) / unit) & 0xFF

@@ -12,7 +12,7 @@ import tempfile
 import runs
 
 DRIVER, POINTERS, DATA, STACKS, TESTS, PADS, VECTORS = 0x0400, 0x0900, 0x0A00, 0x0B00, 0x0C00, 0xFF00, 0xFFC0
-PAD_COUNT = 32                  # of six bytes each, from PADS on; the pads 1 and 2 stand round the instruction
+PAD_COUNT = 32                  # of six bytes each, from PADS on; the pads 1 and 2 are before and after the instruction
 WORDS = ('A', 'X', 'Y', 'PSW', 'SP', 'pad', 'sum', 'sum of sums')
 EDGES = (0x00, 0x01, 0x0F, 0x10, 0x7F, 0x80, 0x81, 0x99, 0x9A, 0xFE, 0xFF)
 STACK_POINTERS = (0xFB, 0xFC, 0xFD, 0xFE, 0xFF, 0x00, 0x01, 0x02, 0x03, 0x04)
@@ -94,7 +94,7 @@ class Test:
         return self.near() + 0x100 * self.picked.randrange(2)
 
     def branch(self, length):
-        """The distance to one of the pads round the instruction."""
+        """The distance to the pad before or after the instruction."""
         return self.picked.choice((self.tables.before, self.tables.behind)) - (self.tables.instruction + length) & 0xFF
 
     def pointer(self):
@@ -141,7 +141,7 @@ class Test:
             self.x = pick(STACK_POINTERS)
 
     def indexed(self, index):
-        """An address that is one of the data's with the index, and doesn't go round the end of the memory."""
+        """An address that is one of the data's with the index, and doesn't wrap at the end of the memory."""
         target = self.far()
         if target < index:
             target += 0x100 if target < 0x100 else 0

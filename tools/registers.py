@@ -1,6 +1,6 @@
 """SPC files that read timers, ports and the registers of voices, and play what they read; examples/registers.asm is their driver.
 
-What is to be heard is worked out by register_rules.py, and the program only assembles the driver. A byte that isn't the same on all
+The expected sound is computed by register_rules.py, and the program only assembles the driver. A byte that isn't the same on all
 engines is no test.
 """
 import os
@@ -144,9 +144,9 @@ def timer_tests():
         begin = new.start(timer, 64)
         new.write(CONTROL, 1 << timer, begin + tick * (3 * 64 + 32))
         new.read(counter, 4, begin + tick * (4 * 64 + 16))
-        for name, target, ticks in (('a greater target than its count: it counts there', 80, 80),
-                                    ('a target below its count: it counts when it has gone round by 256', 20, 276),
-                                    ('a target that equals its count: it counts when it has gone round by 256', 50, 306)):
+        for name, target, ticks in (('a target above its count: it counts there', 80, 80),
+                                    ('a target below its count: it counts when it has wrapped at 256', 20, 276),
+                                    ('a target that equals its count: it counts when it has wrapped at 256', 50, 306)):
             new = test(title + name)
             for behind in (-1, 0):
                 begin = new.start(timer, 100)

@@ -1,7 +1,7 @@
 """The page in one file, which web/build and tools/release make alike."""
 import zipfile
 
-FIRST = (1980, 1, 1, 0, 0, 0)  # the earliest time that a zip can tell
+FIRST = (1980, 1, 1, 0, 0, 0)  # the earliest time that a zip can have
 
 
 def write(site, target):

@@ -1,4 +1,4 @@
-"""The library's LLVM module as text, rewritten for wasm32. Rattle's compiler makes it for x86-64; only what web/test tries tells that it means the same here.
+"""The library's LLVM module as text, rewritten for wasm32. Rattle's compiler makes it for x86-64; that it means the same here is only tested, by web/test.
 
 In memory two values of which the second is a pointer lie 8 bytes apart, also where a pointer has 4. Each rule has to find what it rewrites, and may leave
 none of it: a module of another shape is refused, so that none is rewritten by half.

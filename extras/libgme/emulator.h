@@ -1,4 +1,4 @@
-/* emulator.h: what a player holds of this library, and the errors that it is told. */
+/* emulator.h: what a player holds of this library, and the errors that it gets. */
 #ifndef EMULATOR_H
 #define EMULATOR_H
 

@@ -110,18 +110,18 @@ void gme_set_user_cleanup(Music_Emu *emu, gme_user_cleanup_t cleanup) { emu->cle
 
 enum { TEXTS = 16 };
 
-/* A copy whose texts lie behind it in one block of malloc: some players give it back by free() in place of gme_free_info. */
-static gme_info_t *in_one_block(const gme_info_t *told) {
+/* A copy whose texts follow it in one block of malloc: some players release it by free() instead of gme_free_info. */
+static gme_info_t *in_one_block(const gme_info_t *info) {
     const char *texts[TEXTS];
-    size_t lengths[TEXTS], whole = sizeof *told;
+    size_t lengths[TEXTS], whole = sizeof *info;
     gme_info_t *copy;
     char *place;
     int i;
-    memcpy(texts, (const char *)told + offsetof(gme_info_t, system), sizeof texts);
+    memcpy(texts, (const char *)info + offsetof(gme_info_t, system), sizeof texts);
     for (i = 0; i < TEXTS; i++) whole += lengths[i] = strlen(texts[i]) + 1;
     copy = malloc(whole);
     if (!copy) return NULL;
-    *copy = *told;
+    *copy = *info;
     place = (char *)(copy + 1);
     for (i = 0; i < TEXTS; i++) {
         memcpy(place, texts[i], lengths[i]);
@@ -133,12 +133,12 @@ static gme_info_t *in_one_block(const gme_info_t *told) {
 }
 
 gme_err_t gme_track_info(Music_Emu const *emu, gme_info_t **out, int track) {
-    gme_info_t *told = NULL;
-    gme_err_t error = emu->calls->gme_track_info(emu->inner, &told, track);
+    gme_info_t *inner = NULL;
+    gme_err_t error = emu->calls->gme_track_info(emu->inner, &inner, track);
     *out = NULL;
     if (error) return error;
-    *out = in_one_block(told);
-    emu->calls->gme_free_info(told);
+    *out = in_one_block(inner);
+    emu->calls->gme_free_info(inner);
     return *out ? NULL : OUT_OF_MEMORY;
 }
 

@@ -50,7 +50,7 @@ void close_resampled(resampled *it) {
     free(it);
 }
 
-void forget_resampled(resampled *it) { it->second = NO_SECOND; }
+void invalidate_resampled(resampled *it) { it->second = NO_SECOND; }
 
 /* The run's frame at which what a second takes begins: below 0 for the first, whose margin is silent. */
 static int64_t begin_of(const resampled *it, int64_t second) { return second * SPCWAVE_RATE - it->margin; }

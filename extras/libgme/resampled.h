@@ -19,8 +19,8 @@ resampled *open_resampled(int rate);
 
 void close_resampled(resampled *it);
 
-/* The run's frames have changed: its end or its muted voices. */
-void forget_resampled(resampled *it);
+/* The run's frames have changed (its end or its muted voices): what is cached of them is dropped. */
+void invalidate_resampled(resampled *it);
 
 /* The first frame of the run that frame `at` needs. */
 uint32_t first_needed(const resampled *it, int64_t at);

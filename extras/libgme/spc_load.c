@@ -1,4 +1,4 @@
-/* spc_load.c: SPC files are loaded, and tell their tags. */
+/* spc_load.c: SPC files are loaded, and their tags are read. */
 #include <stdlib.h>
 #include <string.h>
 
@@ -19,7 +19,7 @@ static gme_err_t error_of(uint32_t status) {
     }
 }
 
-/* What gme_track_info tells. There is no number but -1 for what isn't known. */
+/* What gme_track_info returns: -1 for each number that isn't known. */
 static void fill_info(spc_tune *tune) {
     gme_info_t *info = &tune->info;
     const spc_tags *tags = &tune->tags;

@@ -16,7 +16,7 @@ static uint32_t place_of(const spc_tune *tune) {
 
 /* The next call plays from the position, whatever has changed. */
 static void play_anew(spc_tune *tune) {
-    if (tune->resampled) forget_resampled(tune->resampled);
+    if (tune->resampled) invalidate_resampled(tune->resampled);
     seek_run(&tune->run, tune->resampled ? first_needed(tune->resampled, tune->at) : place_of(tune));
 }
 
@@ -75,7 +75,7 @@ gme_err_t spc_seek(Music_Emu *emu, int milliseconds) { return seek_frame(&emu->s
 
 gme_err_t spc_seek_samples(Music_Emu *emu, int samples) { return seek_frame(&emu->spc, samples / 2); }
 
-/* Whether a fade from there on would reach the end that the tags tell, with a fade of their own: that one is kept then. */
+/* Whether a fade from there on would reach the end that the tags give, with a fade of their own: that one is kept then. */
 static bool keeps_own_end(const spc_tags *tags, int start) {
     int length = (int)(tags->frames / (SPCWAVE_RATE / 1000));
     return start <= 0 || start == length || (tags->fade && start < length && start + OWN_FADE >= length);

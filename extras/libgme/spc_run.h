@@ -29,7 +29,7 @@ void close_run(spc_run *run);
 /* Lets it end after `frames`, of which the last `fade` fade out along a line. */
 void set_run_end(spc_run *run, uint32_t frames, uint32_t fade);
 
-/* Lets it go on for ever: to the last frame that can be played. */
+/* Lets it play without an end: to the last frame that can be played. */
 void set_run_endless(spc_run *run);
 
 void seek_run(spc_run *run, uint32_t frame);

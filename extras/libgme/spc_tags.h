@@ -13,7 +13,7 @@ enum { TEXT_SIZE = 256 };
 
 typedef struct spc_tags {
     char song[TEXT_SIZE], game[TEXT_SIZE], author[TEXT_SIZE], copyright[TEXT_SIZE], comment[TEXT_SIZE], dumper[TEXT_SIZE];
-    bool timed;             /* they tell the length; else three minutes stand in */
+    bool timed;             /* they give the length; else it is three minutes */
     uint32_t frames, fade;  /* the length, fade included, and the fade, in frames of 32,000 a second */
 } spc_tags;
 

@@ -8,7 +8,7 @@
 #include <stdio.h>
 #include <stdlib.h>
 
-/* Tells a copy of this library from the system's. */
+/* Distinguishes a copy of this library from the system's. */
 extern const int spcwave_drop_in;
 const int spcwave_drop_in = 1;
 

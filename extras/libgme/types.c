@@ -9,7 +9,7 @@
 #include "system_gme.h"
 #include "types.h"
 
-/* As libgme lays a type out; what makes its emulators is not told here. */
+/* As libgme lays a type out; what makes its emulators is not shown here. */
 struct gme_type_t_ {
     const char *system;
     int tracks; /* 1 where each file has one, else 0 or the number */

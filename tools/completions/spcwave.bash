@@ -1,4 +1,4 @@
-# Completion of spcwave's commands, options and files for bash. Commands and options are those that `spcwave help` tells.
+# Completion of spcwave's commands, options and files for bash. Commands and options are those that `spcwave help` prints.
 _spcwave() {
     local word=${COMP_WORDS[COMP_CWORD]} command=${COMP_WORDS[1]-}
     COMPREPLY=()

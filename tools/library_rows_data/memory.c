@@ -1,5 +1,5 @@
-/* Each allocation of spcwave_open refused in turn, and that no other call allocates: memory TUNE.spc TABLE. Link with
- * -Wl,--wrap=malloc,--wrap=realloc,--wrap=free. */
+/* Each allocation of spcwave_open refused in turn, that what it has to refuse is refused without memory, and that no other call allocates:
+ * memory TUNE.spc TABLE. Link with -Wl,--wrap=malloc,--wrap=realloc,--wrap=free. */
 #include <stdio.h>
 #include <stdlib.h>
 #include "spcwave.h"
@@ -82,7 +82,7 @@ int main(int argc, char **argv) {
             return 1;
         }
     }
-    refused = -1;
+    calls = refused = 0;     /* there is no memory at all, and none is asked for */
     for (i = 0; i < 100; i++) {
         if (spcwave_open(&player, spc, 65919, table, 1024, &options) != SPCWAVE_SPC_LENGTH || live || bytes) return 14;
         if (spcwave_open(&player, zeros, n, table, 1024, &options) != SPCWAVE_SPC_SIGNATURE || live || bytes) return 15;
@@ -90,6 +90,7 @@ int main(int argc, char **argv) {
         if (spcwave_open(&player, spc, n, table, 1024, &few) != SPCWAVE_OUT_OF_RANGE || live || bytes) return 17;
         if (spcwave_open(&player, spc, n, table, 1024, &small) != SPCWAVE_OUT_OF_RANGE || live || bytes || player) return 18;
     }
-    printf("each of %ld calls refused, and 500 opens for other reasons: none open, nothing left\n", all);
+    if (calls) return 19;
+    printf("each of %ld calls refused, and 500 opens for other reasons, without memory: none open, nothing left\n", all);
     return 0;
 }

@@ -3,7 +3,7 @@
 #include <stdlib.h>
 #include "spc.h"
 
-static void told(spc_err_t error) {
+static void check(spc_err_t error) {
     if (error) {
         fprintf(stderr, "%s\n", error);
         exit(1);
@@ -22,15 +22,15 @@ int main(int argc, char **argv) {
     size = (long)fread(file, 1, sizeof file, in);
     fclose(in);
     if (spc_play(spc, 2, samples) == NULL || spc_load_spc(spc, file, 100) == NULL) return 3;
-    told(spc_load_spc(spc, file, size));
+    check(spc_load_spc(spc, file, size));
     spc_clear_echo(spc);
     spc_filter_clear(filter);
     spc_mute_voices(spc, 0xFF);
-    told(spc_skip(spc, 2 * spc_sample_rate * atoi(argv[2])));
+    check(spc_skip(spc, 2 * spc_sample_rate * atoi(argv[2])));
     spc_mute_voices(spc, 0);
     for (left = 2L * spc_sample_rate * atoi(argv[3]); left > 0; left -= 2048) {
         int count = left < 2048 ? (int)left : 2048;
-        told(spc_play(spc, count, samples));
+        check(spc_play(spc, count, samples));
         spc_filter_run(filter, samples, count);
         if (fwrite(samples, 2, (size_t)count, stdout) != (size_t)count) return 4;
     }

@@ -66,14 +66,14 @@ static void try_texts(void) {
     for (i = 0; i < sizeof others / sizeof *others; i++) row(strcmp(spcwave_status_text(others[i]), "unknown status") == 0, "another number has none");
 }
 
-/* Files with these tags: byte 23h, the seconds and the milliseconds of the fade; and the length and the fade that they tell, in frames. */
-static const struct told { uint8_t mark; const char *seconds, *fade; uint32_t frames, fade_frames; bool timed; } lengths[] = {
+/* Files with these tags: byte 23h, the seconds and the milliseconds of the fade; and the length and the fade that they give, in frames. */
+static const struct tagged { uint8_t mark; const char *seconds, *fade; uint32_t frames, fade_frames; bool timed; } lengths[] = {
     {0x1A, "2", "500", 80000, 16000, true}, {0x1A, "2", "", 64000, 0, true}, {0x1A, "", "500", 5760000, 0, false},
     {0x1A, "0", "500", 5760000, 0, false}, {0x1A, "2s", "500", 5760000, 0, false}, {0x1B, "2", "500", 5760000, 0, false},
 };
 
-/* Whether a tune with such tags tells their length, before it is opened and afterwards. */
-static int tells(const struct told *it, uint8_t *spc, size_t spc_length, const uint8_t *table) {
+/* Whether a tune with such tags has their length, before it is opened and afterwards. */
+static int has_length(const struct tagged *it, uint8_t *spc, size_t spc_length, const uint8_t *table) {
     const spcwave_options options = { sizeof options, 256, 0, 0 };
     spcwave_player *player = NULL;
     spcwave_info info = SPCWAVE_INFO;
@@ -125,7 +125,7 @@ int main(int argc, char **argv) {
     row(player == NULL, "refusals give no player");
     spcwave_close(&player);
     row(player == NULL, "and closing none does nothing");
-    /* what the bytes tell */
+    /* what the bytes say */
     memset(&info, 0x55, sizeof info);
     kept = info;
     row(spcwave_inspect(spc, spc_length, &info) == SPCWAVE_OUT_OF_RANGE && memcmp(&info, &kept, sizeof info) == 0, "an inspection without a size");
@@ -137,7 +137,7 @@ int main(int argc, char **argv) {
     row(spcwave_inspect(spc, spc_length, &info) == SPCWAVE_OK && info.frames == count && info.tagged && info.timed && info.size == sizeof info, "of the tune");
     uint8_t *other_tags = malloc(spc_length);
     memcpy(other_tags, spc, spc_length);
-    for (i = 0; i < sizeof lengths / sizeof *lengths; i++) row(tells(&lengths[i], other_tags, spc_length, table), "of the tune with other tags");
+    for (i = 0; i < sizeof lengths / sizeof *lengths; i++) row(has_length(&lengths[i], other_tags, spc_length, table), "of the tune with other tags");
     free(other_tags);
     /* bits that are no handle: spcwave_open leaves them where it is refused, and else writes over them; no other call may be given them */
     memset(&other, 0xA5, sizeof other);
@@ -170,14 +170,14 @@ int main(int argc, char **argv) {
     row(spcwave_tag(player, SPCWAVE_TITLE, text, 0) == (size_t)n && (n < 1 || text[0] == (char)spc[0x2E]), "no room, and nothing written");
     for (n = 0; n < SPCWAVE_TAGS; n++) {
         row(spcwave_tag(player, (uint32_t)n, text, sizeof text) == info.tags[n].length && memcmp(text, spc + info.tags[n].offset, info.tags[n].length) == 0,
-            "a text stands where it was told");
+            "a text is where the inspection found it");
     }
     row(spcwave_tag(player, SPCWAVE_TITLE, NULL, 0) == info.tags[0].length, "no room at all");
     row(spcwave_tag(player, 8, text, sizeof text) == 0 && text[0] == 0, "no tag has number 8");
     row(spcwave_free_pages(player) == 4096 - 256, "the mark of frame 0 has 256 pages");
     row(spcwave_position(player) == 0, "stands at 0");
     double least, t = now();
-    row(spcwave_play(player, got, count) == count, "plays all at once");
+    row(spcwave_play(player, got, count) == count, "plays all in one call");
     t = now() - t;
     printf("played %u frames in %.3f s, %.1f ns a frame\n", count, t, 1e9 * t / count);
     row(memcmp(got, ref, steady * sizeof *got) == 0, "and they are those of the sound file");
@@ -248,7 +248,7 @@ int main(int argc, char **argv) {
     row(spcwave_set_end(player, SPCWAVE_MAX_FRAMES, SPCWAVE_MAX_FRAMES) == SPCWAVE_OK && spcwave_play_faded(player, got, 16) == 16, "an end at the hour");
     row(spcwave_set_end(player, 0, 0) == SPCWAVE_OK && spcwave_play_faded(player, got, 16) == 0, "an end at the start");
     spcwave_length(player, &length, &fade);
-    row(length == count && fade == info.fade && spcwave_set_end(player, length, fade) == SPCWAVE_OK, "the tags' length is still told, and set again");
+    row(length == count && fade == info.fade && spcwave_set_end(player, length, fade) == SPCWAVE_OK, "the tags' length is still reported, and set again");
     /* seeks */
     for (marks = 0; marks < 3; marks++) {
         static const char *how[] = {"without marks", "with marks", "with marks each second"};

@@ -10,7 +10,7 @@
 
 enum { ASKED = 25 };
 
-static uint8_t bytes[MOST_BYTES], table[1024];
+static uint8_t bytes[MAX_BYTES], table[1024];
 static size_t size;
 
 static void read_tune(const char *name) {

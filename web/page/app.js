@@ -12,7 +12,7 @@ const id = (name) => document.getElementById(name);
 
 const state = {
   inputs: null, // the module and the table
-  library: null, // tells what files tell of themselves
+  library: null, // reads what files say
   rows: null, // of the voices
   sound: null, // a promise, once something first plays
   tunes: [], // see list.js
@@ -24,7 +24,7 @@ const state = {
   lines: null, // what is drawn of the tune, as far as it is rendered
 };
 
-const tell = (text) => {
+const showStatus = (text) => {
   id('status').textContent = text;
 };
 
@@ -57,7 +57,7 @@ async function add(files) {
   state.tunes.push(...added);
   added.forEach((tune, offset) => showTune(tune, first + offset));
   id('list').hidden = state.tunes.length === 0;
-  tell(refusalsOf(added));
+  showStatus(refusalsOf(added));
   const next = playable(state.tunes, first, 1);
   if (next >= 0 && !state.plays) await start(next);
 }
@@ -81,7 +81,7 @@ function openSound() {
     onEnded,
     onComes: (comes) => id('coming').classList.toggle('comes', comes),
     onStopped: () => setPlays(false),
-    onFailed: () => tell('The tune can’t be played: there is not enough memory.'),
+    onFailed: () => showStatus('The tune can’t be played: there is not enough memory.'),
   }).catch((error) => {
     state.sound = null;
     throw error;
@@ -124,7 +124,7 @@ async function setPlays(plays) {
   id('play').setAttribute('aria-label', plays ? 'Pause' : 'Play');
   id('play-sign').setAttribute('href', plays ? '#sign-pause' : '#sign-play');
   if (await sound.run(plays)) return;
-  tell('Press Play: this browser wants a press before a page may sound.');
+  showStatus('Press Play: this browser wants a press before a page may sound.');
   await setPlays(false);
 }
 
@@ -315,10 +315,10 @@ function listen() {
   document.addEventListener('visibilitychange', async () => state.current >= 0 && (await state.sound).change(words()));
   new ResizeObserver(drawAll).observe(id('chart'));
   window.matchMedia('(prefers-color-scheme: dark)').addEventListener('change', drawAll);
-  window.addEventListener('unhandledrejection', ({ reason }) => tell(`Something went wrong: ${reason.message ?? reason}.`));
+  window.addEventListener('unhandledrejection', ({ reason }) => showStatus(`Something went wrong: ${reason.message ?? reason}.`));
 }
 
-/** Keeps the page for use without a network. At localhost another page may have this address tomorrow, so there only where `?offline` asks for it. */
+/** Stores the page for use without a network. At localhost only if `?offline` asks for it, because another page may be served there later. */
 async function keepOffline() {
   const wanted = window.location.protocol === 'https:' || window.location.search === '?offline';
   if (!wanted || !navigator.serviceWorker) return;
@@ -336,10 +336,10 @@ try {
     onSolo: (voice) => setMix(pressSolo(state.mix, voice)),
   });
   listen();
-  tell('');
+  showStatus('');
   requestAnimationFrame(draw);
   document.body.dataset.ready = 'yes';
   keepOffline();
 } catch (error) {
-  tell(`The page can’t be made ready: ${error.message}.`);
+  showStatus(`The page can’t be made ready: ${error.message}.`);
 }

@@ -5,7 +5,7 @@ import { Library } from './library.js';
 let engine;
 let works = false;
 
-/** Lets messages in, and goes on at once: a timer would wait for milliseconds. */
+/** Lets messages in, and continues immediately: a timer would wait for milliseconds. */
 const { port1: bell, port2: ear } = new MessageChannel();
 ear.onmessage = () => {
   works = engine.work();
@@ -20,7 +20,7 @@ function wake() {
 function begin({ inputs, output }) {
   const library = new Library(inputs.module);
   const open = (spc, options) => library.open(spc, inputs.table, options);
-  engine = new Engine(open, (piece) => output.postMessage(piece), (told) => postMessage(told));
+  engine = new Engine(open, (piece) => output.postMessage(piece), (message) => postMessage(message));
   output.onmessage = ({ data }) => {
     engine.handsOver(data);
     wake();

@@ -33,17 +33,17 @@ export class Refused extends Error {
 export class Library {
   constructor(module) {
     this.calls = new WebAssembly.Instance(module, {}).exports;
-    this.handle = this.room(8); // where a call reads or writes a player's address
-    this.options = this.room(OPTIONS_BYTES);
-    this.info = this.room(INFO_BYTES);
-    this.voice = this.room(VOICE_BYTES);
-    this.frames = this.room(4 * FRAMES_AT_ONCE);
-    this.table = this.room(TABLE_BYTES);
-    this.file = this.room(MAX_BYTES);
+    this.handle = this.allocate(8); // where a call reads or writes a player's address
+    this.options = this.allocate(OPTIONS_BYTES);
+    this.info = this.allocate(INFO_BYTES);
+    this.voice = this.allocate(VOICE_BYTES);
+    this.frames = this.allocate(4 * FRAMES_AT_ONCE);
+    this.table = this.allocate(TABLE_BYTES);
+    this.file = this.allocate(MAX_BYTES);
   }
 
   /** Bytes of the library's memory. */
-  room(size) {
+  allocate(size) {
     const at = this.calls.web_take(size);
     if (at === 0) throw new Refused(Status.OUT_OF_MEMORY);
     return at;
@@ -59,7 +59,7 @@ export class Library {
     this.view(Uint8Array, this.file, spc.length).set(spc);
   }
 
-  /** What a file tells of itself: { frames, title, game, artist }. A file that is none is refused. */
+  /** What a file says: { frames, title, game, artist }. A file that is none is refused. */
   inspect(spc) {
     this.put(spc);
     this.view(Uint32Array, this.info, 1)[0] = INFO_BYTES;
@@ -113,12 +113,12 @@ export class Player {
     this.calls.spcwave_seek(this.handle, frame);
   }
 
-  /** Goes towards a frame by running at most `max` frames, 1 or more, and tells whether it is there. */
+  /** Goes towards a frame by running at most `max` frames, 1 or more, and returns whether it is there. */
   seekSome(frame, max) {
     return this.calls.spcwave_seek_some(this.handle, frame, max) !== Status.NOT_YET;
   }
 
-  /** Mutes these voices and no others. It runs the frames up to the position again, and all marks but that of frame 0 are gone. */
+  /** Mutes these voices and no others. It runs the frames up to the position again, and all marks except that of frame 0 are gone. */
   mute(voices) {
     this.calls.spcwave_mute(this.handle, voices);
   }

@@ -1,4 +1,4 @@
-// What is drawn of a whole tune: in each of its columns how loud it is, and the level and the pitch of each voice.
+// What is drawn of a whole tune: in each of its columns its loudness, and the level and the pitch of each voice.
 import { VOICES } from './library.js';
 import { noteOf } from './notes.js';
 
@@ -16,8 +16,8 @@ export const columnOf = (lines, frame) => Math.floor((frame / lines.frames) * CO
 /** How many columns are rendered to their end. */
 export const columnsDone = (lines) => (lines.frames === 0 ? 0 : columnOf(lines, lines.rendered));
 
-/** Adds the frames that come next, left and right by turns, and what shows of the voices behind them. A column has its greatest value, and of each voice its
- * greatest level with the pitch at that moment. What shows behind a piece is also that of the columns which begin and end within it. */
+/** Adds the frames that come next, left and right by turns, and what shows of the voices behind them. A column has its maximum, and of each voice its
+ * maximum level with the pitch at that moment. What shows behind a piece is also that of the columns which begin and end within it. */
 export function addPiece(lines, frames, voices) {
   frames.forEach((value, index) => {
     const column = columnOf(lines, lines.rendered + (index >> 1));
@@ -44,14 +44,14 @@ export function noteAt(lines, voice, column) {
   return lines.levels[index] > 0 && lines.pitches[index] > 0 ? noteOf(lines.pitches[index]) : null;
 }
 
-/** The least and the greatest note of a voice, moved apart where they are less than an octave apart; null where it is silent throughout. */
+/** The lowest and the highest note of a voice, moved apart if they are less than an octave apart; null if it is silent throughout. */
 export function notesOf(lines, voice) {
-  let [least, greatest] = [Infinity, -Infinity];
+  let [lowest, highest] = [Infinity, -Infinity];
   for (let column = 0; column < COLUMNS; column++) {
     const note = noteAt(lines, voice, column);
-    if (note !== null) [least, greatest] = [Math.min(least, note), Math.max(greatest, note)];
+    if (note !== null) [lowest, highest] = [Math.min(lowest, note), Math.max(highest, note)];
   }
-  if (least > greatest) return null;
-  const missing = Math.max(0, MIN_SPAN - (greatest - least)) / 2;
-  return { least: least - missing, greatest: greatest + missing };
+  if (lowest > highest) return null;
+  const missing = Math.max(0, MIN_SPAN - (highest - lowest)) / 2;
+  return { lowest: lowest - missing, highest: highest + missing };
 }

@@ -4,7 +4,7 @@ import { clock } from './clock.js';
 /** What a tune is called: by its tag, or else by its file. */
 export const titleOf = (tune) => tune.title || tune.name;
 
-/** What is told of a tune beside its title. */
+/** What the page shows of a tune beside its title. */
 export const aboutOf = (tune) => [tune.game, tune.artist, clock(tune.frames)].filter(Boolean).join(' · ');
 
 /** A tune's line in the list. */

@@ -1,4 +1,4 @@
-// Notes of pitches. No file tells at which note its samples were recorded: one at its own speed (4,096) counts as the middle C.
+// Notes of pitches. No file says at which note its samples were recorded: one at its own speed (4,096) counts as middle C.
 
 const OWN_SPEED = 4096;
 const MIDDLE_C = 60;

@@ -1,5 +1,5 @@
 // Keeps the page in the browser, so that it works without a network. All of one build is kept together, and no file of another is mixed in: a newer build is
-// kept beside it, and comes into use once no window shows the older one. files.js, which web/build writes, has the files and what tells builds apart.
+// kept beside it, and comes into use once no window shows the older one. files.js, which web/build writes, has the files and a name of the build.
 /* global BUILD, FILES */
 importScripts('files.js');
 

@@ -4,10 +4,10 @@ import { COLUMNS, columnsDone, noteAt, notesOf } from './lines.js';
 import { noteName } from './notes.js';
 
 const MAX_LEVEL = 2047;
-const PICTURES_TOLD = 30; // pictures after which levels are told to a screen reader again
+const PICTURES_READ = 30; // pictures after which a screen reader gets the levels again
 const QUIET = 0.3; // how opaque the part of a voice is that isn't heard
 
-/** A canvas as large as it is shown, with its pen; `scale` is how many of its dots make a point. */
+/** A canvas as large as it is shown, with its pen; `scale` is how many of its dots make a CSS pixel. */
 function penOf(canvas) {
   const scale = window.devicePixelRatio || 1;
   const [width, height] = [Math.round(canvas.clientWidth * scale), Math.round(canvas.clientHeight * scale)];
@@ -47,33 +47,33 @@ function drawVoice({ pen, width, scale, color }, lines, voice, top, height) {
   for (let column = 0; column < count; column++) {
     const note = noteAt(lines, voice, column);
     if (note === null) continue;
-    const high = (note - notes.least) / (notes.greatest - notes.least);
+    const high = (note - notes.lowest) / (notes.highest - notes.lowest);
     pen.fillRect(column * wide, top + (1 - high) * (height - thick), wide + 0.5, thick);
   }
 }
 
-/** The whole tune as far as it is rendered: how loud it is, and below that a part for each voice, as high as its row in points. */
+/** The whole tune as far as it is rendered: its loudness, and below that a part for each voice, as high as its row in CSS pixels. */
 export function drawChart(canvas, lines, silent, row) {
   const { pen, width, height, scale, color } = penOf(canvas);
   const colors = { level: color('--level'), note: color('--mark'), line: color('--line') };
   const part = row * scale;
-  const loud = height - VOICES * part;
+  const head = height - VOICES * part; // of the loudness
   pen.fillStyle = colors.line;
-  for (let voice = 0; voice < VOICES; voice++) pen.fillRect(0, Math.round(loud + voice * part), width, scale);
+  for (let voice = 0; voice < VOICES; voice++) pen.fillRect(0, Math.round(head + voice * part), width, scale);
   if (!lines) return;
   pen.fillStyle = colors.note;
   for (let column = 0; column < columnsDone(lines); column++) {
-    const tall = Math.max(scale, lines.loudness[column] * loud * 0.9);
-    pen.fillRect((column * width) / COLUMNS, (loud - tall) / 2, width / COLUMNS + 0.5, tall);
+    const tall = Math.max(scale, lines.loudness[column] * head * 0.9);
+    pen.fillRect((column * width) / COLUMNS, (head - tall) / 2, width / COLUMNS + 0.5, tall);
   }
   for (let voice = 0; voice < VOICES; voice++) {
     pen.globalAlpha = silent & (1 << voice) ? QUIET : 1;
-    drawVoice({ pen, width, scale, color: colors }, lines, voice, loud + voice * part + 2 * scale, part - 3 * scale);
+    drawVoice({ pen, width, scale, color: colors }, lines, voice, head + voice * part + 2 * scale, part - 3 * scale);
   }
   pen.globalAlpha = 1;
 }
 
-/** Puts a text where another one stands. */
+/** Replaces a text by another. */
 function write(cell, text) {
   if (cell.textContent !== text) cell.textContent = text;
 }
@@ -120,7 +120,7 @@ export class VoiceRows {
     });
   }
 
-  /** How high a row is, in points. */
+  /** How high a row is, in CSS pixels. */
   get height() {
     return this.rows[0].row.getBoundingClientRect().height;
   }
@@ -137,7 +137,7 @@ export class VoiceRows {
 
   /** What shows of the voices: level, pitch, output and source of each. */
   show(voices) {
-    this.pictures = (this.pictures + 1) % PICTURES_TOLD;
+    this.pictures = (this.pictures + 1) % PICTURES_READ;
     this.rows.forEach(({ meter, note, source }, voice) => {
       const [level, pitch, , sample] = voices.subarray(4 * voice, 4 * voice + 4);
       meter.style.transform = `scaleX(${level / MAX_LEVEL})`;

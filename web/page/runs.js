@@ -5,7 +5,7 @@ const MARK_SECONDS = 5;
 const PAGES = 4096; // of 256 bytes, for the marks of one run: 1 MB
 const KEPT = 18; // runs: the one that is heard, and those that are one press away
 
-/** A player and how far it has come: up to there marks stand, each five seconds. */
+/** A player and how far it has come: up to there a mark was taken each five seconds. */
 export class Run {
   constructor(player) {
     this.player = player;
@@ -16,14 +16,14 @@ export class Run {
     return this.player.position;
   }
 
-  /** The frames that come next, left and right by turns: at most so many, and none behind the tune's end unless it is endless. */
+  /** The frames that come next, left and right by turns: at most `count`, and none after the tune's end unless it is endless. */
   play(count, endless) {
     const frames = (endless ? this.player.play(count) : this.player.playFaded(count)).slice();
     this.furthest = Math.max(this.furthest, this.position);
     return frames;
   }
 
-  /** Goes towards a frame by running at most `max` frames, and tells whether it is there. Where it wasn't before it goes from mark to mark. */
+  /** Goes towards a frame by running at most `max` frames, and returns whether it is there. In a part that is new it goes from mark to mark. */
   step(frame, max) {
     const known = frame <= this.furthest;
     if (!known && this.position !== this.furthest) {
@@ -44,7 +44,7 @@ export class Runs {
   constructor(open) {
     this.open = open;
     this.spc = null;
-    this.runs = new Map(); // the one that was asked for last stands last
+    this.runs = new Map(); // the one that was asked for last is last
   }
 
   /** Another tune: the runs of the one before are closed. */
@@ -54,8 +54,8 @@ export class Runs {
     this.spc = spc;
   }
 
-  /** The run with these voices muted. A new one, where there are as many as are kept, has the player of the one that was asked for longest ago, though not of
-   * the one to be spared. */
+  /** The run with these voices muted. If as many as are kept are there, a new one takes the player of the one that was asked for longest ago, except of the
+   * one to be spared. */
   of(muted, spared) {
     const run = this.runs.get(muted) ?? this.make(muted, spared);
     this.runs.delete(muted);
@@ -67,7 +67,7 @@ export class Runs {
     if (this.runs.size < KEPT) return new Run(this.open(this.spc, { pages: PAGES, markSeconds: MARK_SECONDS, muted }));
     const [oldest, { player }] = [...this.runs].find(([, run]) => run !== spared);
     this.runs.delete(oldest);
-    player.seek(0); // where muting has nothing to run again
+    player.seek(0); // there muting runs nothing again
     player.mute(muted);
     return new Run(player);
   }

@@ -1,4 +1,4 @@
-// The sound of the page: the engine's thread makes frames, the output hands them to the sound card, and the page is told what is heard.
+// The sound of the page: the engine's thread makes frames, the output hands them to the sound card, and the page learns what is heard.
 import { PIECE } from './engine.js';
 import { RATE } from './library.js';
 
@@ -65,7 +65,7 @@ export class Sound {
     if (turn === this.turn) this.listener.onEnded();
   }
 
-  /** Goes to a frame, of another tune where `words` has one: what was ordered before is forgotten. */
+  /** Goes to a frame, of another tune where `words` has one: what was ordered before is dropped. */
   go(frame, words) {
     this.turn++;
     [this.begun, this.shown, this.position] = [[], [], frame];
@@ -81,7 +81,7 @@ export class Sound {
     this.gain.gain.value = volume;
   }
 
-  /** Plays or pauses. Tells whether it could: a browser may hold back sound until something is pressed, and then doesn't answer. */
+  /** Plays or pauses. Returns whether it could: a browser may hold back sound until something is pressed, and then doesn't answer. */
   async run(plays) {
     this.plays = plays;
     this.output.port.postMessage({ runs: plays });

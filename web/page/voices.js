@@ -1,4 +1,4 @@
-// Which voices are heard. Each is plain, muted or solo; where any is solo, those that are solo are heard and no others. Bit v is voice v.
+// Which voices are heard. Each is plain, muted or solo; if any is solo, only those that are solo are heard. Bit v is voice v.
 import { VOICES } from './library.js';
 
 const ALL = 2 ** VOICES - 1;
@@ -6,7 +6,7 @@ const ALL = 2 ** VOICES - 1;
 /** All are plain. */
 export const PLAIN = { muted: 0, solo: 0 };
 
-/** A press on a voice's mute: it is muted, and no solo any more; or plain, where it was muted. */
+/** A press on a voice's mute: it is muted, and no longer solo; or plain, if it was muted. */
 export const pressMute = ({ muted, solo }, voice) => ({ muted: muted ^ (1 << voice), solo: solo & ~(1 << voice) });
 
 /** A press on a voice's solo, in the same way. */
@@ -22,7 +22,7 @@ export function onePressAway(mix) {
   return [...new Set(sets)].filter((silent) => silent !== silentOf(mix));
 }
 
-/** The name of the sound file of a tune: it tells which voices are heard, counted from 1, unless all are. */
+/** The name of the sound file of a tune: it lists the voices that are heard, counted from 1, unless all are. */
 export function downloadName(name, silent) {
   const heard = Array.from({ length: VOICES }, (_, voice) => voice + 1).filter((number) => !(silent & (1 << (number - 1))));
   const which = silent === 0 ? '' : heard.length === 0 ? ' (no voices)' : ` (${heard.length === 1 ? 'voice' : 'voices'} ${heard.join(' ')})`;

@@ -1,5 +1,5 @@
-// Hands frames to the sound card. The engine sends pieces, each with the turn that it belongs to; the output tells it which frame it hands over next, and
-// the page when each piece begins to sound. It imports nothing: not every browser lets a worklet do that.
+// Hands frames to the sound card. The engine sends pieces, each with the turn that it belongs to; the output reports to it which frame it hands over next, and
+// to the page when each piece begins to sound. It imports nothing: not every browser lets a worklet do that.
 
 /** A piece without its frames from this one on. */
 const before = (piece, frame) => ({ at: piece.at, frames: piece.frames.subarray(0, 2 * (frame - piece.at)) });
@@ -19,7 +19,7 @@ export class Queue {
     this.next = null; // the frame that is handed over next, once a piece has come
   }
 
-  /** Takes a piece in place of all that stood from its first frame on. What is handed over already stays so: of the piece the rest counts. */
+  /** Takes a piece in place of all from its first frame on. What is handed over already stays so: only the rest of the piece counts. */
   put(piece) {
     this.next ??= piece.at;
     this.pieces = this.pieces
@@ -31,14 +31,14 @@ export class Queue {
     if (ends || rest.frames.length > 0) this.pieces.push(rest);
   }
 
-  /** Hands over as many frames as there are room for and are here. Answers where pieces began, each { at, offset }; whether one is used up; and whether the
-   * end was come to. */
+  /** Hands over as many frames as there is room for and as are here. Returns where pieces began, each { at, offset }; whether one is used up; and whether the
+   * end is reached. */
   fill(left, right) {
-    const told = { begun: [], used: false, ended: false };
+    const result = { begun: [], used: false, ended: false };
     let offset = 0;
     while (offset < left.length && this.pieces[0]?.frames.length > 0) {
       const [{ at, frames }] = this.pieces;
-      if (this.next === at) told.begun.push({ at, offset });
+      if (this.next === at) result.begun.push({ at, offset });
       const first = this.next - at;
       const count = Math.min(left.length - offset, frames.length / 2 - first);
       for (let index = 0; index < count; index++) {
@@ -49,14 +49,14 @@ export class Queue {
       this.next += count;
       if (first + count === frames.length / 2) {
         this.pieces.shift();
-        told.used = true;
+        result.used = true;
       }
     }
     if (this.pieces[0]?.frames.length === 0) {
       this.pieces.shift();
-      told.ended = true;
+      result.ended = true;
     }
-    return told;
+    return result;
   }
 }
 

@@ -41,7 +41,7 @@ class Page {
     this.engine.order({ ...words, turn: this.turn });
   }
 
-  /** Hands over so many blocks; tells whether the end was come to. */
+  /** Hands over so many blocks; returns whether the end is reached. */
   play(blocks, works = 4) {
     let ended = false;
     for (let block = 0; block < blocks && !ended; block++) {

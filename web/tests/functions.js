@@ -16,14 +16,14 @@ const TUNE = { name: 'a.spc', frames: 62 * 32000 + 31999, title: 'A', game: 'B',
 const UNTITLED = { name: 'b.spc', frames: 0, title: '', game: '', artist: '' };
 const REFUSED = { name: 'c.spc', refusal: 'it is none' };
 
-/** A piece of frames whose left side counts on from `at`, and whose right side tells which piece it was. */
+/** A piece of frames whose left side counts on from `at`, and whose right side says which piece it was. */
 const piece = (at, count, mark = 0) => ({ at, frames: Int16Array.from({ length: 2 * count }, (_, index) => (index % 2 ? mark : at + (index >> 1))) });
 
-/** What a queue hands over next: so many frames, each with both sides, and what it told. */
+/** What a queue hands over next: `count` frames, each with both sides, and what it returns. */
 function taken(queue, count) {
   const [left, right] = [new Float32Array(count), new Float32Array(count)];
-  const told = queue.fill(left, right);
-  return { left: [...left].map((value) => value * 32768), right: [...right].map((value) => value * 32768), ...told };
+  const result = queue.fill(left, right);
+  return { left: [...left].map((value) => value * 32768), right: [...right].map((value) => value * 32768), ...result };
 }
 
 /** What shows of voices of which one has this level and pitch. */
@@ -41,7 +41,7 @@ const TESTS = {
     same([4096, 8192, 2048, 4340, 0].map(noteName), ['C4', 'C5', 'C3', 'C♯4', '–']);
     same([noteOf(4096), noteOf(16384)], [60, 84]);
   },
-  'a list tells titles, lengths and refusals': () => {
+  'a list shows titles, lengths and refusals': () => {
     same([TUNE, UNTITLED].map(titleOf), ['A', 'b.spc']);
     same(aboutOf(TUNE), 'B · 1:02');
     same([TUNE, UNTITLED, REFUSED].map(lineOf), ['A, 1:02', 'b.spc, 0:00', 'c.spc: refused, it is none']);
@@ -58,20 +58,20 @@ const TESTS = {
     same(pressMute(pressSolo(PLAIN, 2), 2), muted);
     same([PLAIN, muted, pressSolo(muted, 0), pressSolo(pressSolo(PLAIN, 0), 7)].map(silentOf), [0, 4, 0xfe, 0x7e]);
   },
-  'the sets of one press more are told once each': () => {
+  'the sets of one press more come once each': () => {
     same(onePressAway(PLAIN).sort((one, other) => one - other), [1, 2, 4, 8, 16, 32, 64, 127, 128, 191, 223, 239, 247, 251, 253, 254]);
     same(onePressAway({ muted: 0xfe, solo: 0 }).includes(0xfe), false);
   },
-  'the name of a download tells the voices that are heard': () => {
+  'the name of a download lists the voices that are heard': () => {
     same([0, 0xfe, 0x0c, 0xff].map((silent) => downloadName('a.SPC', silent)), ['a.wav', 'a (voice 1).wav', 'a (voices 1 2 5 6 7 8).wav', 'a (no voices).wav']);
   },
-  'a column has its loudest value, and of a voice its greatest level with the note of that moment': () => {
+  'a column has its loudest value, and of a voice its maximum level with the note of that moment': () => {
     const lines = emptyLines(2 * COLUMNS);
     addPiece(lines, Int16Array.of(-16384, 0), shows(3, 100, 8192));
     addPiece(lines, Int16Array.of(1, 8192, 0, 0), shows(3, 50, 4096));
     same([lines.rendered, columnsDone(lines), lines.loudness[0], lines.loudness[1]], [3, 1, 0.5, 0]);
     same([noteAt(lines, 3, 0), noteAt(lines, 3, 1), noteAt(lines, 2, 0)], [72, 60, null]);
-    same([notesOf(lines, 3), notesOf(lines, 2)], [{ least: 60, greatest: 72 }, null]);
+    same([notesOf(lines, 3), notesOf(lines, 2)], [{ lowest: 60, highest: 72 }, null]);
   },
   'a short tune has a note in each column': () => {
     const lines = emptyLines(COLUMNS);
@@ -82,7 +82,7 @@ const TESTS = {
   'a voice of one note is drawn in the middle of an octave': () => {
     const lines = emptyLines(COLUMNS);
     addPiece(lines, Int16Array.of(0, 0), shows(0, 1, 4096));
-    same(notesOf(lines, 0), { least: 54, greatest: 66 });
+    same(notesOf(lines, 0), { lowest: 54, highest: 66 });
   },
   'the head of a sound file': () => {
     const head = Buffer.from(waveHead(400));
@@ -90,7 +90,7 @@ const TESTS = {
     same([16, 1, 2, 32000, 128000, 4, 16], [head.readUInt32LE(16), head.readUInt16LE(20), head.readUInt16LE(22), head.readUInt32LE(24), head.readUInt32LE(28), head.readUInt16LE(32), head.readUInt16LE(34)]);
     same([head.toString('latin1', 36, 40), head.readUInt32LE(40), head.length], ['data', 400, 44]);
   },
-  'a queue hands over its pieces in order, and tells what began and ended': () => {
+  'a queue hands over its pieces in order, and returns what began and ended': () => {
     const queue = new Queue();
     queue.put(piece(10, 3));
     queue.put(piece(13, 2));

@@ -2,7 +2,9 @@
 -- AlikeChips: S-DSPs that differ in volumes of muted voices alone.
 -- AlikeFiles: what files give that differ there alone.
 -- ShownRuns: runs in which nothing is hidden.
+-- TracedRuns: runs in which other voices are traced.
 pub mod BlindRuns
 pub mod AlikeChips
 pub mod AlikeFiles
 pub mod ShownRuns
+pub mod TracedRuns

@@ -1,5 +1,6 @@
-//! Laws of whole runs in which voices are muted.
+//! Laws of whole runs in which voices are muted or traced.
 ghost use Rattle.muted_runs.specs.MutedFiles.{VolumesAreNotHeard};
+ghost use Rattle.muted_runs.specs.Tracing.{TracingIsNotHeard};
 ghost use Rattle.muted_runs.specs.Watching.{WatchingChangesNothing, NotesNothingShown, NotesReadsAlone};
 
 use chip_form::Chip;
@@ -23,4 +24,9 @@ pub fn what_is_hidden_is_noted_alone<C: Chip>(_chip: &C)
 /// one of them reads none of these registers.
 pub fn volumes_of_muted_voices_are_not_heard()
     ensures { VolumesAreNotHeard }
+{}
+
+/// A tune gives the same frames whichever voices are traced.
+pub fn tracing_is_not_heard()
+    ensures { TracingIsNotHeard }
 {}

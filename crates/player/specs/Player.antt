@@ -71,9 +71,9 @@ frames_sought player at = at - runs_from (book_of player.server) at
 abbrev pub sought_some : {S V : Type 0} → PlayerState S V → (at most : ℕ) → ℕ
 sought_some player at most = min at (runs_from (book_of player.server) at + most)
 
--- a seek makes no more frames than lie between its goal and any mark up to it
-abbrev pub SeekIsNear : {S V : Type 0} → PlayerState S V → (at : ℕ) → Type 0
-SeekIsNear player at = (mark : ℕ) → stands_at (marks_of player) mark ≡ true → mark ≤ at → frames_sought player at ≤ at - mark
+-- a seek made no more frames than lie between its goal and any mark up to it
+abbrev pub SeekIsNear : {S V : Type 0} → (old new : PlayerState S V) → (at : ℕ) → Type 0
+SeekIsNear old new at = (mark : ℕ) → stands_at (marks_of old) mark ≡ true → mark ≤ at → made_of new ≤ made_of old + (at - mark)
 
 -- the frames of a render of the tune, which is as long as the end says and fades as it says, and so many of them from the position on
 abbrev pub faded_run : {S V : Type 0} → ChipMeaning S → ChipSaving S V → PlayerState S V → List Frame
@@ -93,7 +93,7 @@ pub record IsOver {S V : Type 0} (server : ChipServer S V) (file : List ℕ) (sp
   pub spacing_is : player.spacing ≡ spacing
   pub end_is : player.end ≡ length_of file
 
--- what each call keeps of a player: its tune, its file, the pages that it has for marks, their spacing, and its end
+-- what each call but `set_end` and `restart` keeps of a player: its tune, its file, the pages that it has for marks, their spacing, and its end
 pub record KeepsPlayer {S V : Type 0} (chip : ChipMeaning S) (saving : ChipSaving S V) (old new : PlayerState S V) : Type 0 where
   pub start : opening_of chip saving new ≡ opening_of chip saving old
   pub frames : frames_of chip saving new ≡ frames_of chip saving old

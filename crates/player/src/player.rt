@@ -172,7 +172,7 @@ impl<C: Chip> Player<C> {
         ensures position { position_of self.new ≡ at }
         ensures marks { marks_of self.new ≡ marks_of self.old }
         ensures made { made_of self.new ≡ count_after (made_of self.old) (frames_sought self.old at) }
-        ensures near { SeekIsNear self.old at }
+        ensures near { SeekIsNear self.old self.new at }
         ensures tune { KeepsPlayer C.meaning C.saving self.old self.new }
     {
         self.server.seek(at);

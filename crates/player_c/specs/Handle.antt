@@ -4,7 +4,7 @@ use Rattle.chip_form.specs.Samples.{count_after}
 use Rattle.cut_form.specs.Checkpoints.{Checkpoint}
 use Rattle.spc_form.specs.declared.tags.Length.{Length}
 use Rattle.spc_player.specs.declared.options.PlayerOptions.{PlayerOptions}
-use Rattle.player.specs.Player.{position_of, marks_of, made_of, frames_sought, sought_some}
+use Rattle.player.specs.Player.{position_of, marks_of, made_of, frames_sought, sought_some, SeekIsNear}
 use Rattle.spc_player.specs.Player.{SpcPlayer, marks_played, KeepsPlayer}
 use Rattle.spc_player.specs.Inputs.{IsOpened, IsMuted}
 use Rattle.player_c.specs.declared.handle.SpcwavePlayer.{SpcwavePlayer}
@@ -12,6 +12,11 @@ use Rattle.player_c.specs.declared.handle.SpcwavePlayer.{SpcwavePlayer}
 -- the player of a handle, which has one from its opening to its end
 abbrev pub playing : SpcwavePlayer → Option SpcPlayer
 playing handle = handle.owned.playing
+
+-- the player of a handle that stands
+abbrev pub playing_in : Option SpcwavePlayer → Option SpcPlayer
+playing_in None = None
+playing_in (Some handle) = playing handle
 
 abbrev pub IsOpen : SpcwavePlayer → Type 0
 IsOpen handle = IsSome (playing handle)
@@ -37,6 +42,10 @@ Sought frame = Moved (λ _. frame) marks_of (λ p. count_after (made_of p) (fram
 abbrev pub SoughtSome : (frame most : ℕ) → (old new : Option SpcPlayer) → Type 0
 SoughtSome frame most = Moved (λ p. sought_some p frame most) marks_of (λ p. count_after (made_of p) (min most (frames_sought p frame)))
 
+-- the seek to a frame made no more frames than lie between any mark up to it and the frame
+abbrev pub SoughtNear : (frame : ℕ) → (old new : Option SpcPlayer) → Type 0
+SoughtNear frame = Becomes (λ old new. SeekIsNear old new frame)
+
 -- so many frames fewer are left to be made for a seek
 abbrev pub LeftToSeek : (frame most : ℕ) → (old new : Option SpcPlayer) → Type 0
 LeftToSeek frame most = Becomes (λ old new. frames_sought new frame ≡ frames_sought old frame - most)
@@ -55,5 +64,4 @@ IsOpening bytes table options (Some player) = IsOpened bytes table options playe
 
 -- the same, of a handle that stands
 abbrev pub IsOpeningIn : (bytes table : List ℕ) → PlayerOptions → Option SpcwavePlayer → Type 0
-IsOpeningIn bytes table options None = ⊥
-IsOpeningIn bytes table options (Some handle) = IsOpening bytes table options (playing handle)
+IsOpeningIn bytes table options handle = IsOpening bytes table options (playing_in handle)

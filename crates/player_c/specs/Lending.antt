@@ -1,10 +1,9 @@
 -- What a handle ends as, once its player was lent.
 use Rattle.std.specs.Prelude.{Some}
 use Rattle.std.specs.Borrow.{Lends, MutBor, Fml}
-use Rattle.spc_player.specs.Player.{SpcPlayer}
+use Rattle.spc_player.specs.Player.{SpcPlayer, player_row}
 use Rattle.player_c.specs.declared.owned_player.OwnedPlayer.{OwnedPlayer}
 use Rattle.player_c.specs.contracts.owned_player.OwnedPlayer.{the_row as owned_row}
-use Rattle.player_c.specs.Owned.{player_row}
 
 -- a handle whose player has become another
 abbrev pub with_player : OwnedPlayer → SpcPlayer → OwnedPlayer

@@ -1,5 +1,5 @@
 -- The numbers that calls answer: those of the program's statuses, and two more.
-use Rattle.std.specs.Prelude.{ℕ, ◌==◌, ◌&&◌, Bool, if◌then◌else◌, nat_le, nat_lt, List, Result, Ok, Err}
+use Rattle.std.specs.Prelude.{ℕ, ◌==◌, ◌&&◌, Bool, if◌then◌else◌, nat_le, nat_lt, List, Result, Ok, Err, is_some}
 use Rattle.num_fix.specs.Limits.{max_frames}
 use Rattle.spc_form.specs.declared.reading.SpcRefusal.{SpcRefusal}
 use Rattle.spc_form.specs.Accepted.{spc_file}
@@ -9,6 +9,8 @@ use Rattle.spc_player.specs.Inputs.{Inputs, inputs_of}
 use Rattle.spc_player.specs.Player.{SpcPlayer}
 use Rattle.spc_player.specs.Refusals.{of_spc}
 use Rattle.player.specs.Player.{sought_some}
+use Rattle.player_c.specs.declared.options.SpcwaveOptions.{SpcwaveOptions}
+use Rattle.player_c.specs.Options.{options_of}
 
 abbrev pub ok : ℕ
 ok = 0
@@ -36,6 +38,10 @@ status_for (Err refusal) = status_of refusal
 
 abbrev pub inputs_status : (bytes table : List ℕ) → ℕ
 inputs_status bytes table = status_for (inputs_of bytes table)
+
+-- the status with which a player is opened where memory is found: that for its options, before that for its inputs
+abbrev pub open_status : SpcwaveOptions → (bytes table : List ℕ) → ℕ
+open_status options bytes table = if is_some (options_of options) then inputs_status bytes table else out_of_range
 
 -- the status for a file alone
 abbrev pub spc_status_of : SpcRefusal → ℕ

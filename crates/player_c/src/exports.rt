@@ -1,17 +1,17 @@
-// What C calls. No call but `spcwave_open` takes memory.
-ghost use Rattle.std.specs.Prelude.{◌≡◌, ◌≢◌, ◌<◌, ◌+◌, ◌-◌, ◌++◌, ◌⊎◌, ◌&&◌, true, nat_le, min, map, None, Err, IfErr, IfOk, IfSome, length, drop};
+// What C calls. No call but `spcwave_open` takes memory: of `spcwave_close`, which is lent an allocator too, that is tested.
+ghost use Rattle.std.specs.Prelude.{◌≡◌, ◌≢◌, ◌+◌, ◌-◌, ◌++◌, ◌⊎◌, ◌&&◌, true, nat_le, min, map, Some, None, Err, IfErr, IfOk, IfSome, length, drop};
 ghost use Rattle.num_fix.specs.Limits.{max_frames};
 ghost use Rattle.cut_form.specs.Slices.{slice_of};
 ghost use Rattle.player.specs.Output.{stereo};
-ghost use Rattle.player.specs.Player.{position_of, made_of, SeekIsNear};
+ghost use Rattle.player.specs.Player.{position_of, made_of};
 ghost use Rattle.spc_player.specs.Inputs.{inputs_of, IsOpened};
 ghost use Rattle.spc_player.specs.Options.{are_in_range};
 ghost use Rattle.spc_player.specs.Player.{frames_of, faded_frames_played, marking};
 ghost use Rattle.spc_player.specs.declared.refusal.PlayerRefusal.TheVariants as refusals;
 ghost use Rattle.player_c.specs.Closing.{IsHandleOrNull, nothing_there};
-ghost use Rattle.player_c.specs.Handle.{playing, IsOpen, IsOpening, IsOpeningIn, Moved, PlayedOn, Sought, SoughtSome, LeftToSeek, Muted, EndsAt};
+ghost use Rattle.player_c.specs.Handle.{playing, playing_in, IsOpen, IsOpeningIn, Moved, PlayedOn, Sought, SoughtNear, SoughtSome, LeftToSeek, Muted, EndsAt};
 ghost use Rattle.player_c.specs.Options.{options_of};
-ghost use Rattle.player_c.specs.Status.{ok, out_of_memory, out_of_range, inputs_status, range_status, seek_status};
+ghost use Rattle.player_c.specs.Status.{ok, out_of_memory, out_of_range, inputs_status, open_status, range_status, seek_status};
 
 use crate::handle::SpcwavePlayer;
 use crate::options::SpcwaveOptions;
@@ -33,6 +33,7 @@ fn open_boxed(
 ) -> Result<Box<Player<Dsp>>, PlayerRefusal>
     requires { are_in_range options ≡ true }
     ensures opened { IfOk result (λ player. IsOpened spc.now table.now options player.value) }
+    ensures refused { IfErr (inputs_of spc.now table.now) (λ refusal. result ≡ Err refusal) }
     ensures causes { IfErr result (λ refusal. (inputs_of spc.now table.now ≡ Err refusal) ⊎ (refusal ≡ refusals.OutOfMemory)) }
 {
     let player = open_bytes(alloc, spc, table, options)?;
@@ -42,26 +43,20 @@ fn open_boxed(
     }
 }
 
-/// Opens a player in a handle that has none.
-fn open_in(
-    alloc: Global,
-    player: &mut SpcwavePlayer,
-    spc: &[u8],
-    table: &[u8],
-    options: PlayerOptions,
-) -> u32
-    requires none { playing player.old ≡ None }
-    requires in_range { are_in_range options ≡ true }
-    ensures opened { result ≡ ok → IsOpening spc.now table.now options (playing player.new) }
-    ensures causes { (result ≡ ok) ⊎ (result ≡ out_of_memory) ⊎ (inputs_status spc.now table.now ≡ result) }
-    ensures low { result < out_of_range }
+/// Puts a player into a handle on the heap, and writes the handle's address.
+fn put_in_handle(alloc: Global, player: &mut SpcwavePointer, opened: Box<Player<Dsp>>) -> u32
+    requires { player.old.handle ≡ None }
+    ensures put { result ≡ ok → playing_in player.new.handle ≡ Some opened.value }
+    ensures otherwise { result ≢ ok → player.new ≡ player.old }
+    ensures causes { (result ≡ ok) ⊎ (result ≡ out_of_memory) }
 {
-    match open_boxed(alloc, spc, table, options) {
-        Ok(opened) => {
-            player.owned.put(opened);
+    match Box::new(alloc, SpcwavePlayer::none()) {
+        Ok(mut handle) => {
+            handle.owned.put(opened);
+            player.put(handle);
             OK
         }
-        Err(refusal) => status_of(refusal),
+        Err(_) => OUT_OF_MEMORY,
     }
 }
 
@@ -76,24 +71,18 @@ fn open_handle(
     requires none { player.old.handle ≡ None }
     requires in_range { are_in_range options ≡ true }
     ensures opened { result ≡ ok → IsOpeningIn spc.now table.now options player.new.handle }
-    ensures refused { result ≢ ok → player.new ≡ player.old }
-    ensures causes { (result ≡ ok) ⊎ (result ≡ out_of_memory) ⊎ (inputs_status spc.now table.now ≡ result) }
-    ensures low { result < out_of_range }
+    ensures otherwise { result ≢ ok → player.new ≡ player.old }
+    ensures refused { inputs_status spc.now table.now ≢ ok → result ≡ inputs_status spc.now table.now }
+    ensures accepted { inputs_status spc.now table.now ≡ ok → (result ≡ ok) ⊎ (result ≡ out_of_memory) }
 {
-    match Box::new(alloc, SpcwavePlayer::none()) {
-        Ok(mut handle) => {
-            let status = open_in(alloc, &mut handle, spc, table, options);
-            if status == OK {
-                player.put(handle);
-            }
-            status
-        }
-        Err(_) => OUT_OF_MEMORY,
+    match open_boxed(alloc, spc, table, options) {
+        Ok(opened) => put_in_handle(alloc, player, opened),
+        Err(refusal) => status_of(refusal),
     }
 }
 
 /// Opens a player of the tune of an SPC file over a table of weights, with these options, in a handle on the heap, and writes the handle's
-/// address. Where it is refused nothing is written.
+/// address. Options, file and table are looked at before any memory is taken. Where it is refused nothing is written.
 #[unsafe(no_mangle)]
 pub extern "C" fn spcwave_open(
     alloc: Global,
@@ -104,10 +93,9 @@ pub extern "C" fn spcwave_open(
 ) -> u32
     requires { player.old.handle ≡ None }
     ensures opened { result ≡ ok → IfSome (options_of options.now) (λ options. IsOpeningIn spc.now table.now options player.new.handle) }
-    ensures refused { result ≢ ok → player.new ≡ player.old }
-    ensures out_of_range { result ≡ out_of_range → options_of options.now ≡ None }
-    ensures in_range { options_of options.now ≡ None → result ≡ out_of_range }
-    ensures causes { (result ≡ ok) ⊎ (result ≡ out_of_memory) ⊎ (result ≡ out_of_range) ⊎ (inputs_status spc.now table.now ≡ result) }
+    ensures otherwise { result ≢ ok → player.new ≡ player.old }
+    ensures refused { open_status options.now spc.now table.now ≢ ok → result ≡ open_status options.now spc.now table.now }
+    ensures accepted { open_status options.now spc.now table.now ≡ ok → (result ≡ ok) ⊎ (result ≡ out_of_memory) }
 {
     match options.options() {
         None => OUT_OF_RANGE,
@@ -175,7 +163,7 @@ pub extern "C" fn spcwave_seek(player: &mut SpcwavePlayer, frame: u32) -> u32
     requires { IsOpen player.old }
     ensures status { result ≡ range_status (nat_le frame max_frames) }
     ensures moved { result ≡ ok → Sought frame (playing player.old) (playing player.new) }
-    ensures near { result ≡ ok → IfSome (playing player.old) (λ p. SeekIsNear p frame) }
+    ensures near { result ≡ ok → SoughtNear frame (playing player.old) (playing player.new) }
     ensures otherwise { result ≢ ok → playing player.new ≡ playing player.old }
 {
     if frame > MAX_FRAMES {

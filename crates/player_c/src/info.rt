@@ -1,8 +1,8 @@
 // What the bytes of a file say without a player.
 ghost use Rattle.std.specs.Prelude.{◌≡◌, ◌≢◌, IfOk};
 ghost use Rattle.spc_form.specs.Accepted.{spc_file};
-ghost use Rattle.spc_form.specs.Inspection.{info_of, StandThere};
-ghost use Rattle.player_c.specs.Info.{known_of};
+ghost use Rattle.spc_form.specs.Inspection.{info_of};
+ghost use Rattle.player_c.specs.Info.{known_of, TextsStand};
 ghost use Rattle.player_c.specs.Status.{ok, out_of_range, spc_status};
 
 use crate::status::{OK, OUT_OF_RANGE, spc_status_of};
@@ -51,8 +51,8 @@ pub extern "C" fn spcwave_inspect(spc: &[u8], info: &mut SpcwaveInfo) -> u32
     ensures out_of_range { info.old.size ≢ INFO_SIZE → result ≡ out_of_range }
     ensures status { info.old.size ≡ INFO_SIZE → result ≡ spc_status spc.now }
     ensures known { result ≡ ok → IfOk (spc_file spc.now) (λ file. info.new ≡ known_of (info_of file)) }
-    ensures texts { result ≡ ok → IfOk (spc_file spc.now) (λ file. StandThere spc.now file) }
-    ensures left { result ≢ ok → info.new ≡ info.old }
+    ensures texts { result ≡ ok → IfOk (spc_file spc.now) (λ file. TextsStand spc.now file info.new.tags) }
+    ensures otherwise { result ≢ ok → info.new ≡ info.old }
 {
     if info.size != INFO_SIZE {
         return OUT_OF_RANGE;

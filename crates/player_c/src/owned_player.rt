@@ -1,8 +1,7 @@
 // The part of a handle that keeps the player.
 ghost use Rattle.std.specs.Prelude.{Option};
 ghost use Rattle.std.specs.Coded.{coded_option};
-ghost use Rattle.spc_player.specs.Player.{SpcPlayer};
-ghost use Rattle.player_c.specs.Owned.{player_row};
+ghost use Rattle.spc_player.specs.Player.{SpcPlayer, player_row};
 
 use std::marker::Model;
 

@@ -1,5 +1,5 @@
 // What C can ask of a player.
-ghost use Rattle.std.specs.Prelude.{◌≡◌, ◌≢◌, nat_lt, IfSome, length};
+ghost use Rattle.std.specs.Prelude.{◌≡◌, ◌≢◌, ◌≤◌, nat_lt, IfSome, length};
 ghost use Rattle.cut_form.specs.Checkpoints.{slots_free};
 ghost use Rattle.spc_form.specs.Tags.{length_of, has_tags};
 ghost use Rattle.player.specs.Output.{with_text};
@@ -73,6 +73,7 @@ pub extern "C" fn spcwave_tag(player: &mut SpcwavePlayer, number: u32, text: &mu
     requires { IsOpen player.old }
     ensures text { IfSome (playing player.old) (λ p. text.new ≡ with_text (tag_text p.file number) text.old) }
     ensures length { IfSome (playing player.old) (λ p. result ≡ length (tag_text p.file number)) }
+    ensures short { result ≤ 32 }
     ensures same { playing player.new ≡ playing player.old }
 {
     if let Some(tag) = tag_of(number) {
@@ -102,7 +103,8 @@ pub extern "C" fn spcwave_voice(
     requires { IsOpen player.old }
     ensures status { result ≡ range_status (nat_lt number 8) }
     ensures voice { result ≡ ok → IfSome (playing player.old) (λ p. voice.new ≡ shown_voice (chip_here p) number) }
-    ensures left { result ≢ ok → voice.new ≡ voice.old }
+    ensures bound { result ≡ ok → voice.new.level ≤ 2047 }
+    ensures otherwise { result ≢ ok → voice.new ≡ voice.old }
     ensures same { playing player.new ≡ playing player.old }
 {
     if number >= 8 {

@@ -1,6 +1,6 @@
 // The numbers that calls answer.
 ghost use Rattle.std.specs.Prelude.{◌≡◌, ◌<◌};
-ghost use Rattle.player_c.specs.Status.{status_of, spc_status_of, out_of_range};
+ghost use Rattle.player_c.specs.Status.{status_of, spc_status_of};
 
 use spc_form::SpcRefusal;
 use spc_player::PlayerRefusal;
@@ -20,7 +20,6 @@ pub(crate) const NOT_YET: u32 = 18;
 /// The number of a refusal.
 pub(crate) fn status_of(refusal: PlayerRefusal) -> u32
     ensures status { result ≡ status_of refusal }
-    ensures low { result < out_of_range }
     ensures some { 0 < result }
 {
     match refusal {

@@ -74,6 +74,19 @@ bytes_more (not_written n piece ∷ xs) ys = bytes_more xs ys
 bytes_more (finished n ∷ xs) ys = bytes_more xs ys
 bytes_more (not_finished n ∷ xs) ys = bytes_more xs ys
 
+-- what holds of each write of some bytes to an output
+pub write_is : (file : ℕ) (P : Call → Type 0) → ((bytes : List ℕ) → bytes ≢ [] → P (wrote file bytes)) → (c : Call) → IsWrite file c → P c
+write_is file P holds (wrote f bytes) is = subst (λ (n : ℕ). P (wrote n bytes)) (sym is.0) (holds bytes is.1)
+write_is file P holds (opened name n) is = absurd is
+write_is file P holds (not_opened name) is = absurd is
+write_is file P holds (read n room bytes) is = absurd is
+write_is file P holds (not_read n room) is = absurd is
+write_is file P holds (created name n) is = absurd is
+write_is file P holds (not_created name) is = absurd is
+write_is file P holds (not_written n piece) is = absurd is
+write_is file P holds (finished n) is = absurd is
+write_is file P holds (not_finished n) is = absurd is
+
 pub one_write : (file : ℕ) (bytes : List ℕ) → bytes ≢ [] → AreWrites file bytes (wrote file bytes ∷ [])
 one_write file bytes some = record { each = ((refl, some), tt); joined = append-nil bytes }
 
@@ -83,24 +96,16 @@ writes_then file p q xs ys first second = record {
   joined = bytes_more xs ys ∙ ap (λ (l : List ℕ). l ++ bytes_written ys) first.joined ∙ ap (λ (l : List ℕ). p ++ l) second.joined;
 }
 
--- Writes end no output.
-pub ended_of-writes : (file : ℕ) (calls before : List Call) → AllByRecursion (IsWrite file) calls → ended_of (pushed calls before) ≡ ended_of before
-ended_of-writes file [] before each = refl
-ended_of-writes file (wrote f bytes ∷ calls) before each = ended_of-writes file calls (wrote f bytes ∷ before) each.1
-ended_of-writes file (opened name n ∷ xs) before each = absurd each.0
-ended_of-writes file (not_opened name ∷ xs) before each = absurd each.0
-ended_of-writes file (read n room bytes ∷ xs) before each = absurd each.0
-ended_of-writes file (not_read n room ∷ xs) before each = absurd each.0
-ended_of-writes file (created name n ∷ xs) before each = absurd each.0
-ended_of-writes file (not_created name ∷ xs) before each = absurd each.0
-ended_of-writes file (not_written n piece ∷ xs) before each = absurd each.0
-ended_of-writes file (finished n ∷ xs) before each = absurd each.0
-ended_of-writes file (not_finished n ∷ xs) before each = absurd each.0
+-- what no write changes, writes don't
+pub kept-writes : {A : Type 0} (file : ℕ) (f : List Call → A) → ((bytes : List ℕ) (before : List Call) → f (wrote file bytes ∷ before) ≡ f before) → (calls before : List Call) → AllByRecursion (IsWrite file) calls →
+    f (pushed calls before) ≡ f before
+kept-writes file f same [] before each = refl
+kept-writes file f same (c ∷ calls) before each = kept-writes file f same calls (c ∷ before) each.1 ∙ write_is file (λ c. f (c ∷ before) ≡ f before) (λ bytes some. same bytes before) c each.0
 
 -- an output that can be written can be written still after writes
 pub still_open : (file : ℕ) (bytes : List ℕ) (calls : List Call) (a b : HostState) → Since calls a b → AreWrites file bytes calls → (n : ℕ) → IsOpen (ended_of a.calls) n → IsOpen (ended_of b.calls) n
 still_open file bytes calls a b since writes n open_yet =
-    subst (λ (e : List Bool). IsOpen e n) (sym (ap ended_of since.calls ∙ ended_of-writes file calls a.calls writes.each)) open_yet
+    subst (λ (e : List Bool). IsOpen e n) (sym (ap ended_of since.calls ∙ kept-writes file ended_of (λ bytes before. refl) calls a.calls writes.each)) open_yet
 
 not_empty : (n : ℕ) (l : List ℕ) → n < length l → drop n l ≢ []
 not_empty n l within none = let e = ap (length {A = ℕ}) none in absurd (omega (arith, length-drop n l, e))

@@ -1,2 +1,3 @@
--- MutedTunes: a tune over other muted voices.
+-- MutedTunes: a tune over other muted voices. Sending: that a player may go to another thread.
 mod MutedTunes
+pub mod Sending

@@ -9,9 +9,19 @@ use Rattle.render_core.specs.MachineRun.{Whole}
 use Rattle.cut_form.specs.Checkpoints.{Checkpoint}
 use Rattle.cut_form.specs.Marks.{MarkOutcome}
 use Rattle.player.specs.Player as any
+use denote.RattleType.{RattleType}
+use Rattle.player.specs.contracts.player.Player as of_any
+use Rattle.dsp_state.specs.contracts.state.ChipState as state
+use Rattle.dsp_core.specs.contracts.dsp.Dsp as dsp
+use Rattle.dsp_core.specs.contracts.saved.DspState as saved
+use Rattle.dsp_core.specs.contracts.chip.DspChip.TheImpl as as_chip
 
 abbrev pub SpcPlayer : Type 0
 SpcPlayer = any.PlayerState ChipState SavedDsp
+
+-- what a proof knows of its type
+abbrev pub player_row : RattleType
+player_row = of_any.the_row dsp.the_row state.the_row saved.the_row as_chip.ghosts
 
 -- the machine at the opening of the tune
 abbrev pub opening_of : SpcPlayer → Whole (Machine ChipState)

@@ -1,5 +1,5 @@
 // What opens a player.
-ghost use Rattle.std.specs.Prelude.{◌≡◌, true, IfOk, IfErr, ◌⊎◌};
+ghost use Rattle.std.specs.Prelude.{◌≡◌, true, Err, IfOk, IfErr, ◌⊎◌};
 ghost use Rattle.spc_player.specs.Inputs.{inputs_of, IsOpened, IsAtOpening};
 ghost use Rattle.spc_player.specs.Options.{are_in_range};
 ghost use Rattle.spc_player.specs.declared.refusal.PlayerRefusal.TheVariants as refusals;
@@ -8,7 +8,7 @@ use crate::{OutOfMemory, PlayerOptions, PlayerRefusal};
 use dsp_core::Dsp;
 use gauss_table::GaussTable;
 use player::Player;
-use spc_form::{SpcFile, read_spc};
+use spc_form::{SpcFile, inspect, read_spc};
 use std::alloc::Global;
 use tune_opening::open_server;
 
@@ -26,7 +26,8 @@ pub fn open_player(
     Ok(Player::over(server, file, options.mark_seconds))
 }
 
-/// A player at the opening, from the bytes of an SPC file and those of a table: 512 numbers of 16 bits, low byte first.
+/// A player at the opening, from the bytes of an SPC file and those of a table: 512 numbers of 16 bits, low byte first. What has to be refused is
+/// refused before any memory is taken, the file before the table.
 pub fn open_bytes(
     alloc: Global,
     bytes: &[u8],
@@ -35,10 +36,12 @@ pub fn open_bytes(
 ) -> Result<Player<Dsp>, PlayerRefusal>
     requires { are_in_range options ≡ true }
     ensures opened { IfOk result (λ player. IsOpened bytes.now table.now options player) }
+    ensures refused { IfErr (inputs_of bytes.now table.now) (λ refusal. result ≡ Err refusal) }
     ensures causes { IfErr result (λ refusal. (inputs_of bytes.now table.now ≡ Err refusal) ⊎ (refusal ≡ refusals.OutOfMemory)) }
 {
-    let file = read_spc(alloc, bytes)?;
+    inspect(bytes)?;
     let weights = GaussTable::read(alloc, table)?;
+    let file = read_spc(alloc, bytes)?;
     let player = open_player(alloc, file, weights, options)?;
     Ok(player)
 }

@@ -1,9 +1,11 @@
 // A player on the S-DSP may go to another thread.
+ghost use Rattle.std.specs.Thread.{IsSend};
+ghost use Rattle.spc_player.specs.Player.{player_row};
 
 use dsp_core::Dsp;
-use player::{Player, a_player_may_go_to_another_thread};
+use player::Player;
 
-/// A player on the S-DSP may go to another thread: the call has its proof from the types of its parts, down to the last.
-pub fn an_spc_player_may_go_to_another_thread(player: &Player<Dsp>) {
-    a_player_may_go_to_another_thread(player);
-}
+/// A player on the S-DSP may go to another thread: this is proved of all parts of its type.
+pub fn an_spc_player_may_go_to_another_thread(_player: &Player<Dsp>)
+    ensures { IsSend player_row }
+{}

@@ -1,5 +1,5 @@
 // What shows of the S-DSP.
-ghost use Rattle.std.specs.Prelude.{◌≡◌, ◌<◌};
+ghost use Rattle.std.specs.Prelude.{◌≡◌, ◌<◌, ◌≤◌};
 ghost use Rattle.spc_player.specs.Player.{chip_here};
 ghost use Rattle.spc_player.specs.Voices.{shown_voice};
 
@@ -16,7 +16,7 @@ pub struct ShownVoice {
     pub level: u16,
     /// The pitch of its registers, 0 to 16,383: at 4,096 the sample is played 32,000 numbers a second.
     pub pitch: u16,
-    /// The high byte of its output, -128 to 127, which the register OUTX has.
+    /// The register OUTX, -128 to 127: the high byte of its output, unless the program has written there since.
     pub output: i16,
     /// The number of its sample in the directory, 0 to 255.
     pub source: u16,
@@ -25,7 +25,8 @@ pub struct ShownVoice {
 /// What shows of a voice of a chip.
 fn shown_voice(chip: &ChipState, number: u8) -> ShownVoice
     requires { number < 8 }
-    ensures { result ≡ shown_voice chip.now number }
+    ensures shown { result ≡ shown_voice chip.now number }
+    ensures bound { result.level ≤ 2047 }
 {
     let regs = voice_regs(&chip.registers, number);
     ShownVoice {
@@ -46,7 +47,8 @@ pub fn registers(player: &Player<Dsp>) -> &Registers
 /// What shows of a voice, 0 to 7, at the position.
 pub fn voice(player: &Player<Dsp>, number: u8) -> ShownVoice
     requires { number < 8 }
-    ensures { result ≡ shown_voice (chip_here player.now) number }
+    ensures shown { result ≡ shown_voice (chip_here player.now) number }
+    ensures bound { result.level ≤ 2047 }
 {
     shown_voice(player.chip().state(), number)
 }

@@ -8,7 +8,9 @@ use test_support::{OUTPUT_ROOM, Outcome, host_with};
 /// Whether a text begins and ends as the help does. `tools/checks` compares its lines with the manual page and with docs/FORMATS.md.
 fn is_help(text: &[u8]) -> bool {
     text.starts_with(b"spcwave renders SPC music files to WAV files. Its commands:\n\n  spcwave ")
-        && text.ends_with(b"\nThe manual page spcwave(1) and docs/FORMATS.md describe files, texts and exit statuses.\n")
+        && text.ends_with(
+            b"\nThe manual page spcwave(1) and docs/FORMATS.md describe files, texts and exit statuses.\n",
+        )
 }
 
 /// Asks for the commands, where the calls of these numbers fail.

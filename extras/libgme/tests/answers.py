@@ -78,13 +78,13 @@ class Answers:
         self.row('no file', self.library.gme_open_file(b'/none/x.spc', ctypes.byref(emu), 32000))
 
     def ask_info(self):
-        emu, told = self.opened(self.tune, -1)[1], ctypes.POINTER(Info)()
-        self.row('info', self.library.gme_track_info(emu, ctypes.byref(told), 0))
-        self.row('info texts', [told.contents.texts[i] for i in range(16)])
-        self.row('info intro and loop', list(told.contents.numbers)[1:3])
-        self.row('info length', [told.contents.numbers[i] for i in (0, 3)])
-        self.library.gme_free_info(told)
-        self.row('info of track 1', self.library.gme_track_info(emu, ctypes.byref(told), 1))
+        emu, info = self.opened(self.tune, -1)[1], ctypes.POINTER(Info)()
+        self.row('info', self.library.gme_track_info(emu, ctypes.byref(info), 0))
+        self.row('info texts', [info.contents.texts[i] for i in range(16)])
+        self.row('info intro and loop', list(info.contents.numbers)[1:3])
+        self.row('info length', [info.contents.numbers[i] for i in (0, 3)])
+        self.library.gme_free_info(info)
+        self.row('info of track 1', self.library.gme_track_info(emu, ctypes.byref(info), 1))
         self.library.gme_delete(emu)
 
     def ask_playing(self):

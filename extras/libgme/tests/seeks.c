@@ -92,7 +92,7 @@ static void compare_whole(const short *played, long count, const short *wanted, 
 
 static void seek_around(Music_Emu *emu, const short *whole, long count, int rate) {
     static short piece[2 * LONGEST_PIECE];
-    int told = 1, exact = 1, i;
+    int placed = 1, exact = 1, i;
     for (i = 0; i < SEEKS; i++) {
         long at = below((uint32_t)(count - LONGEST_PIECE)), some = 1 + below(LONGEST_PIECE - 1);
         if (i % 3 == 0) {
@@ -102,11 +102,11 @@ static void seek_around(Music_Emu *emu, const short *whole, long count, int rate
         } else {
             must(gme_seek_samples(emu, (int)(2 * at)));
         }
-        told &= gme_tell_samples(emu) == 2 * at && gme_tell(emu) == at * 1000 / rate;
+        placed &= gme_tell_samples(emu) == 2 * at && gme_tell(emu) == at * 1000 / rate;
         must(gme_play(emu, (int)(2 * some), piece));
         exact &= !memcmp(piece, whole + 2 * at, (size_t)some * 4);
     }
-    row(told && exact, "300 seeks, each exact", rate);
+    row(placed && exact, "300 seeks, each exact", rate);
 }
 
 /* Muting while it plays gives what a tune gives whose voices were muted from its beginning. */

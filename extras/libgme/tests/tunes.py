@@ -72,12 +72,12 @@ class Head:
 NO_TIME = (-1, 180000)
 
 
-def told(author='', song='A song', game='A game', publisher='', comment='A comment', dumper='A dumper'):
+def texts(author='', song='A song', game='A game', publisher='', comment='A comment', dumper='A dumper'):
     return [text.encode() for text in ('Super Nintendo', game, song, author, publisher, comment, dumper)]
 
 
 def tagged(tune):
-    """Of each file what it shows, its bytes, the texts that are to be told, the length that the tags tell and that which is played, in milliseconds."""
+    """Of each file what it shows, its bytes, the texts that are expected, the length by the tags and that which is played, in milliseconds."""
     untagged = Head(tune).text(b'050', b'10000', b'Anna')
     untagged.data[HAS_TAGS] = 27
     long_texts = [(1, b'A longer song'), (2, b'A longer game'), (3, b'Berta'), (4, b'Carl'), (7, b'Hello'), (0x13, b'Some House'), (0x14, 1995)]
@@ -87,15 +87,15 @@ def tagged(tune):
     unpadded = Head(tune).text(b'50', b'', b'Anna')
     unpadded.data += b'xid6' + struct.pack('<I', 15) + struct.pack('<BBH', 1, 1, 3) + b'One' + struct.pack('<BBH', 3, 1, 4) + b'Dora'
     return [
-        ('text form', Head(tune).text(b'050', b'10000', b'Anna'), told('Anna'), (60000, 60000)),
-        ('text form, an author that begins with a digit', Head(tune).text(b'50 ', b'', b'2 Annas'), told('2 Annas'), (50000, 50000)),
-        ('binary form', Head(tune).binary(300, 10000, b'Anna'), told('Anna'), (310000, 310000)),
-        ('binary form, whose seconds look like a digit', Head(tune).binary(50, 0, b'Anna'), told('Anna'), (50000, 50000)),
-        ('binary form, no time', Head(tune).binary(0, 10000, b'Anna'), told('Anna'), NO_TIME),
-        ('no time', Head(tune).text(b'', b'', b'Anna'), told('Anna'), NO_TIME),
-        ('no tags, whatever their places hold', untagged, told('Anna'), NO_TIME),
-        ('question marks', Head(tune).text(b'1', b'0', b'<?>'), told(''), (1000, 1000)),
-        ('extended tags', extended, told('Berta', 'A longer song', 'A longer game', '1995 Some House', 'Hello', 'Carl'), (55000, 55000)),
-        ('an extended tag longer than the file', overlong, told('Anna'), (50000, 50000)),
-        ('extended tags without filling', unpadded, told('Dora', 'One'), (50000, 50000)),
+        ('text form', Head(tune).text(b'050', b'10000', b'Anna'), texts('Anna'), (60000, 60000)),
+        ('text form, an author that begins with a digit', Head(tune).text(b'50 ', b'', b'2 Annas'), texts('2 Annas'), (50000, 50000)),
+        ('binary form', Head(tune).binary(300, 10000, b'Anna'), texts('Anna'), (310000, 310000)),
+        ('binary form, whose seconds look like a digit', Head(tune).binary(50, 0, b'Anna'), texts('Anna'), (50000, 50000)),
+        ('binary form, no time', Head(tune).binary(0, 10000, b'Anna'), texts('Anna'), NO_TIME),
+        ('no time', Head(tune).text(b'', b'', b'Anna'), texts('Anna'), NO_TIME),
+        ('no tags, whatever their places hold', untagged, texts('Anna'), NO_TIME),
+        ('question marks', Head(tune).text(b'1', b'0', b'<?>'), texts(''), (1000, 1000)),
+        ('extended tags', extended, texts('Berta', 'A longer song', 'A longer game', '1995 Some House', 'Hello', 'Carl'), (55000, 55000)),
+        ('an extended tag longer than the file', overlong, texts('Anna'), (50000, 50000)),
+        ('extended tags without filling', unpadded, texts('Dora', 'One'), (50000, 50000)),
     ]

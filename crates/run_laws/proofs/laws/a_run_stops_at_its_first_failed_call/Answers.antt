@@ -1,4 +1,3 @@
-use Rattle.snd_host.specs.History.{ended_of}
 use Rattle.std.proofs.Common.{◌+◌, length}
 use Rattle.snd_host.specs.History.{ended_of}
 use Rattle.command_runner.proofs.PlainRuns.{ends_plain}

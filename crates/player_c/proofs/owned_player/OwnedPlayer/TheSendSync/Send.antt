@@ -10,23 +10,13 @@ use denote.Struct.Struct.{exits_of}
 use denote.Struct.Owning.{shape, fields, to}
 use Rattle.std_alloc.proofs.SendSync.{lies, quiet}
 use Rattle.std.proofs.Crossing.{frees}
-use Rattle.spc_player.specs.Player.{SpcPlayer}
-use Rattle.player_c.specs.Owned.{player_row as I}
-use Rattle.dsp_state.specs.contracts.state.ChipState as state
-use Rattle.dsp_core.specs.contracts.dsp.Dsp as dsp
-use Rattle.dsp_core.specs.contracts.saved.DspState as saved
-use Rattle.dsp_core.specs.contracts.chip.DspChip.TheImpl as as_chip
-use Rattle.dsp_core.proofs.dsp.Dsp.TheSendSync.{the_send as dsp_send}
-use Rattle.dsp_core.proofs.saved.DspState.TheSendSync.{the_send as saved_send}
-use Rattle.player.proofs.player.Player.TheSendSync.{the_send as any_send}
+use Rattle.spc_player.specs.Player.{SpcPlayer, player_row as I}
+use Rattle.spc_player.proofs.Sending.{player_send}
 use Rattle.player_c.specs.Owned.{heap, owns_playing}
 use Rattle.player_c.specs.contracts.owned_player.OwnedPlayer.{the_row, the_type}
 
 pointer_send : IsSend RawPtr
 pointer_send = search sendable
-
-player_send : IsSend I
-player_send = any_send dsp.the_row state.the_row saved.the_row as_chip.ghosts dsp_send saved_send
 
 owned : (p : Ptr) (playing : Option SpcPlayer) → Keyless (owns_playing p playing)
 owned p None = tt

@@ -30,8 +30,7 @@ use Rattle.std_alloc.specs.Box.Ownership.{box_owns}
 use Rattle.std_alloc.proofs.VecSteps.Shapes.{after}
 use Rattle.player_c.specs.declared.owned_player.OwnedPlayer.{OwnedPlayer}
 use Rattle.player_c.specs.contracts.owned_player.OwnedPlayer.{the_row as R, the_type}
-use Rattle.player_c.specs.Owned.{player_row as I}
-use Rattle.spc_player.specs.Player.{SpcPlayer}
+use Rattle.spc_player.specs.Player.{SpcPlayer, player_row as I}
 use Rattle.player_c.specs.Owned.{chunk, owns_playing}
 use Rattle.player_c.specs.Lending.{with_player}
 use Rattle.player_c.proofs.owned_player.OwnedPlayer.TheLaws.{lowers}

@@ -29,7 +29,7 @@ use Rattle.std_heap.specs.contracts.GlobalAllocator.TheImpl.{ghosts}
 use Rattle.std_heap.proofs.Global.TheLaws.{the_row_laws as LZ}
 use Rattle.player_c.specs.contracts.owned_player.OwnedPlayer.{the_row as R, the_type}
 use Rattle.player_c.specs.declared.owned_player.OwnedPlayer.{OwnedPlayer}
-use Rattle.player_c.specs.Owned.{player_row as I}
+use Rattle.spc_player.specs.Player.{player_row as I}
 use Rattle.player_c.specs.contracts.parts.Parts.{the_row as parts_row}
 use Rattle.player_c.proofs.owned_player.OwnedPlayer.TheLaws.{lowers}
 use Rattle.player_c.proofs.PartsSteps.{both, parts_good, parts_out}

@@ -30,8 +30,7 @@ use Rattle.std_heap.proofs.Global.TheLaws.{the_row_laws as LZ}
 use Rattle.std_heap.proofs.Handle.{heap_val, heap_Tells}
 use Rattle.player_c.specs.contracts.owned_player.OwnedPlayer.{the_row as R}
 use Rattle.player_c.specs.declared.owned_player.OwnedPlayer.{OwnedPlayer}
-use Rattle.player_c.specs.Owned.{player_row as I}
-use Rattle.spc_player.specs.Player.{SpcPlayer}
+use Rattle.spc_player.specs.Player.{SpcPlayer, player_row as I}
 use Rattle.player_c.specs.Owned.{chunk, owns_playing}
 use Rattle.player_c.proofs.Open.{some_of}
 use Rattle.player_c.proofs.owned_player.OwnedPlayer.TheLaws.{lowers}
