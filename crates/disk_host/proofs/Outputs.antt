@@ -5,10 +5,9 @@ use Rattle.std.specs.Io.KnownBytes.{Keeps, WriteAppends}
 use Rattle.snd_host.specs.Host.{IsOpen}
 use Rattle.snd_host.specs.Calls.{finish_call, finished, not_finished}
 use Rattle.disk_host.specs.Texts.{Texts}
-use Rattle.disk_host.specs.Created.{max_created, is_ended, flags_of, known_at}
-use Rattle.disk_host.specs.Held.{Tells, output_number, KeepsOutputs, KeepsOutputsBut, held_by, WritesOn, HoldsStay}
+use Rattle.disk_host.specs.Created.{max_created, is_ended, flags_of, known_at, known_of}
+use Rattle.disk_host.specs.Held.{Tells}
 use Rattle.disk_host.specs.declared.host.Created.{Created}
-use Rattle.disk_host.specs.declared.host.DiskHost.{DiskHost}
 use Rattle.disk_host.proofs.Places.{told_last, told_before, keeps_before}
 
 less : (place : ℕ) → suc (suc place) - 2 ≡ place
@@ -19,59 +18,88 @@ open_place flags zero is_open not_report not_note = absurd (not_report refl)
 open_place flags (suc zero) is_open not_report not_note = absurd (not_note refl)
 open_place flags (suc (suc place)) is_open not_report not_note = rw (less place) is_open
 
-module _ {D F : Type 0} (number : F → ℕ) where
-  pub number_at : (host : DiskHost D F) (file : ℕ) → file ≢ 0 → file ≢ 1 → output_number number host file ≡ known_at number 0 host.created.items (file - 2)
-  number_at host zero not_report not_note = absurd (not_report refl)
-  number_at host (suc zero) not_report not_note = absurd (not_note refl)
-  number_at host (suc (suc place)) not_report not_note = rw (less place) refl
+module _ {F : Type 0} (number : F → ℕ) where
+  pub number_at : (places : List (Option (Created F))) (file : ℕ) → file ≢ 0 → file ≢ 1 → known_of number 0 0 1 places file ≡ known_at number 0 places (file - 2)
+  number_at places zero not_report not_note = absurd (not_report refl)
+  number_at places (suc zero) not_report not_note = absurd (not_note refl)
+  number_at places (suc (suc place)) not_report not_note = rw (less place) refl
 
-  pub outputs_kept : (old new : DiskHost D F) → ((place : ℕ) → known_at number 0 new.created.items place ≡ known_at number 0 old.created.items place) → KeepsOutputs number old new
+  pub outputs_kept : (old new : List (Option (Created F))) → ((place : ℕ) → known_at number 0 new place ≡ known_at number 0 old place) → (output : ℕ) → known_of number 0 0 1 new output ≡ known_of number 0 0 1 old output
   outputs_kept old new same zero = refl
   outputs_kept old new same (suc zero) = refl
   outputs_kept old new same (suc (suc place)) = same place
 
   -- the number of the output that was created last
-  pub number_last : (host : DiskHost D F) (places : List (Option (Created F))) (output : Created F) (n : ℕ) → host.created.items ≡ places ++ Some output ∷ [] → n ≡ length places →
-      output_number number host (n + 2) ≡ number output.file
-  number_last host places output n is long =
+  pub number_last : (places now : List (Option (Created F))) (output : Created F) (n : ℕ) → now ≡ places ++ Some output ∷ [] → n ≡ length places → known_of number 0 0 1 now (n + 2) ≡ number output.file
+  number_last places now output n is long =
       let place : n + 2 - 2 ≡ length places = omega (arith, long) in
-      number_at host (n + 2) (λ none. omega (arith, none)) (λ one. omega (arith, one)) ∙ ap (λ (p : ℕ). known_at number 0 host.created.items p) place
+      number_at now (n + 2) (λ none. omega (arith, none)) (λ one. omega (arith, one)) ∙ ap (λ (p : ℕ). known_at number 0 now p) place
       ∙ ap (λ (l : List (Option (Created F))). known_at number 0 l (length places)) is ∙ told_last number 0 places output
 
-  pub outputs_but : (old new : DiskHost D F) (slot : Option (Created F)) → new.created.items ≡ old.created.items ++ slot ∷ [] →
-      KeepsOutputsBut (length (flags_of old.created.items) + 2) number old new
+  pub outputs_but : (old new : List (Option (Created F))) (slot : Option (Created F)) → new ≡ old ++ slot ∷ [] → (output : ℕ) → output ≢ length (flags_of old) + 2 → known_of number 0 0 1 new output ≡ known_of number 0 0 1 old output
   outputs_but old new slot is zero apart = refl
   outputs_but old new slot is (suc zero) apart = refl
   outputs_but old new slot is (suc (suc place)) apart =
-      ap (λ (l : List (Option (Created F))). known_at number 0 l place) is
-      ∙ told_before number 0 old.created.items slot place (λ same. apart (omega (arith, same, length-map old.created.items is_ended)))
+      ap (λ (l : List (Option (Created F))). known_at number 0 l place) is ∙ told_before number 0 old slot place (λ same. apart (omega (arith, same, length-map old is_ended)))
 
-pub writes_place : {D F X : Type 0} (files : Tells F) (texts : D → Texts) (piece : List ℕ) (old new : DiskHost D F) (result : Result ℕ X) (file place : ℕ) → file ≢ 0 → file ≢ 1 →
-    place ≡ file - 2 → WriteAppends (known_at files None old.created.items place) (known_at files None new.created.items place) result piece →
-    ((other : ℕ) → other ≢ place → known_at files None new.created.items other ≡ known_at files None old.created.items other) →
-    texts new.disk ≡ texts old.disk → WritesOn files texts file piece old new result
-writes_place files texts piece old new result zero place not_report not_note at wrote others same = absurd (not_report refl)
-writes_place files texts piece old new result (suc zero) place not_report not_note at wrote others same = absurd (not_note refl)
-writes_place {D} {F} files texts piece old new result (suc (suc p)) place not_report not_note at wrote others same = record {
-  added = subst (λ (n : ℕ). WriteAppends (known_at files None old.created.items n) (known_at files None new.created.items n) result piece) (at ∙ less p) wrote;
-  others = by;
-}
+-- what the output of a number holds, by the texts of report and complaint and the places of the others
+abbrev held_in : {F : Type 0} → Tells F → Texts → List (Option (Created F)) → (output : ℕ) → Option (List ℕ)
+held_in files texts places output = known_of files None texts.report texts.complaint places output
+
+pub writes_place : {F X : Type 0} (files : Tells F) (before after : Texts) (piece : List ℕ) (old new : List (Option (Created F))) (result : Result ℕ X) (file place : ℕ) → file ≢ 0 → file ≢ 1 →
+    place ≡ file - 2 → WriteAppends (known_at files None old place) (known_at files None new place) result piece → ((other : ℕ) → other ≢ place → known_at files None new other ≡ known_at files None old other) →
+    after ≡ before → WriteAppends (held_in files before old file) (held_in files after new file) result piece × ((other : ℕ) → other ≢ file → held_in files after new other ≡ held_in files before old other)
+writes_place files before after piece old new result zero place not_report not_note at wrote others same = absurd (not_report refl)
+writes_place files before after piece old new result (suc zero) place not_report not_note at wrote others same = absurd (not_note refl)
+writes_place {F} files before after piece old new result (suc (suc p)) place not_report not_note at wrote others same = (
+  subst (λ (n : ℕ). WriteAppends (known_at files None old n) (known_at files None new n) result piece) (at ∙ less p) wrote,
+  by,
+)
   where
-    by : (other : ℕ) → other ≢ suc (suc p) → held_by files texts new other ≡ held_by files texts old other
+    by : (other : ℕ) → other ≢ suc (suc p) → held_in files after new other ≡ held_in files before old other
     by zero apart = ap (λ (t : Texts). t.report) same
     by (suc zero) apart = ap (λ (t : Texts). t.complaint) same
     by (suc (suc other)) apart = others other (λ is. apart (ap (λ (n : ℕ). suc (suc n)) (is ∙ at ∙ less p)))
+
+-- a write to the report
+pub writes_report : {F X : Type 0} (files : Tells F) (before after : Texts) (piece : List ℕ) (places : List (Option (Created F))) (result : Result ℕ X) (file : ℕ) → file ≡ 0 → WriteAppends before.report after.report result piece →
+    after.complaint ≡ before.complaint → WriteAppends (held_in files before places file) (held_in files after places file) result piece × ((other : ℕ) → other ≢ file → held_in files after places other ≡ held_in files before places other)
+writes_report {F} files before after piece places result zero is wrote same = (wrote, by)
+  where
+    by : (other : ℕ) → other ≢ 0 → held_in files after places other ≡ held_in files before places other
+    by zero apart = absurd (apart refl)
+    by (suc zero) apart = same
+    by (suc (suc other)) apart = refl
+writes_report files before after piece places result (suc file) is wrote same = absurd (omega (arith, is))
+
+-- and to the complaint
+pub writes_complaint : {F X : Type 0} (files : Tells F) (before after : Texts) (piece : List ℕ) (places : List (Option (Created F))) (result : Result ℕ X) (file : ℕ) → file ≡ 1 → WriteAppends before.complaint after.complaint result piece →
+    after.report ≡ before.report → WriteAppends (held_in files before places file) (held_in files after places file) result piece × ((other : ℕ) → other ≢ file → held_in files after places other ≡ held_in files before places other)
+writes_complaint files before after piece places result zero is wrote same = absurd (omega (arith, is))
+writes_complaint {F} files before after piece places result (suc zero) is wrote same = (wrote, by)
+  where
+    by : (other : ℕ) → other ≢ 1 → held_in files after places other ≡ held_in files before places other
+    by zero apart = same
+    by (suc zero) apart = absurd (apart refl)
+    by (suc (suc other)) apart = refl
+writes_complaint files before after piece places result (suc (suc file)) is wrote same = absurd (omega (arith, is))
 
 keeps_equal : (known now : Option (List ℕ)) → now ≡ known → Keeps known now
 keeps_equal None now same = tt
 keeps_equal (Some bytes) now same = rw (same) refl
 
 -- one output more
-pub holds_stay : {D F : Type 0} (files : Tells F) (texts : D → Texts) (old new : DiskHost D F) (slot : Option (Created F)) → new.created.items ≡ old.created.items ++ slot ∷ [] →
-    texts new.disk ≡ texts old.disk → HoldsStay files texts old new
-holds_stay files texts old new slot is same zero = keeps_equal _ _ (ap (λ (t : Texts). t.report) same)
-holds_stay files texts old new slot is same (suc zero) = keeps_equal _ _ (ap (λ (t : Texts). t.complaint) same)
-holds_stay files texts old new slot is same (suc (suc place)) = rw (is) (keeps_before files old.created.items slot place)
+pub holds_stay : {F : Type 0} (files : Tells F) (before after : Texts) (old new : List (Option (Created F))) (slot : Option (Created F)) → new ≡ old ++ slot ∷ [] → after ≡ before → (output : ℕ) → Keeps (held_in files before old output) (held_in files after new output)
+holds_stay files before after old new slot is same zero = keeps_equal _ _ (ap (λ (t : Texts). t.report) same)
+holds_stay files before after old new slot is same (suc zero) = keeps_equal _ _ (ap (λ (t : Texts). t.complaint) same)
+holds_stay files before after old new slot is same (suc (suc place)) = rw (is) (keeps_before files old slot place)
+
+-- an output whose end was tried
+pub holds_on : {F : Type 0} (files : Tells F) (before after : Texts) (old new : List (Option (Created F))) → ((place : ℕ) → Keeps (known_at files None old place) (known_at files None new place)) → after ≡ before →
+    (output : ℕ) → Keeps (held_in files before old output) (held_in files after new output)
+holds_on files before after old new keeps same zero = keeps_equal _ _ (ap (λ (t : Texts). t.report) same)
+holds_on files before after old new keeps same (suc zero) = keeps_equal _ _ (ap (λ (t : Texts). t.complaint) same)
+holds_on files before after old new keeps same (suc (suc place)) = keeps place
 
 -- a list of places that isn't full
 pub not_full : {F : Type 0} (places : List (Option (Created F))) (full : Bool) → length places ≤ 256 → full ≡ (length places == 256) → full ≡ false → max_created ≤ length (flags_of places) → ⊥

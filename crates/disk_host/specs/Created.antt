@@ -1,5 +1,5 @@
 -- The created outputs of a host of real files. Each stands at a place.
-use Rattle.std.specs.Prelude.{ℕ, Bool, true, List, Option, Some, None, map, slice_get}
+use Rattle.std.specs.Prelude.{ℕ, zero, suc, Bool, true, List, Option, Some, None, map, slice_get}
 use Rattle.disk_host.specs.declared.host.Created.{Created}
 
 -- how many outputs a host of real files can create
@@ -23,3 +23,9 @@ known_or tells otherwise (Some file) = tells file
 -- what is known of the output at a place
 abbrev pub known_at : {F T : Type 0} → (tells : F → T) → (otherwise : T) → List (Option (Created F)) → (place : ℕ) → T
 known_at tells otherwise places place = known_or (known_or (λ output. tells output.file) otherwise) otherwise (slice_get places place)
+
+-- what is known of the output of a number: 0 is the report, 1 the complaint
+abbrev pub known_of : {F T : Type 0} → (tells : F → T) → (otherwise report complaint : T) → List (Option (Created F)) → (output : ℕ) → T
+known_of tells otherwise report complaint places zero = report
+known_of tells otherwise report complaint places (suc zero) = complaint
+known_of tells otherwise report complaint places (suc (suc place)) = known_at tells otherwise places place

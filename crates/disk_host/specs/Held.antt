@@ -1,20 +1,26 @@
 -- What a host of real files is at a moment, which of its disk's files it has in hand, what it asked of its disk, and which bytes its files are known to
 -- hold. A file that doesn't know its bytes has None.
-use Rattle.std.specs.Prelude.{◌≡◌, ◌≢◌, ℕ, zero, suc, List, ◌∷◌, Option, None, Result, IsErr}
+use Rattle.std.specs.Prelude.{◌≡◌, ◌≢◌, ℕ, List, ◌∷◌, Option, None, Result, IsErr}
 use Rattle.std.specs.Option.{option_map}
 use Rattle.std.specs.Io.KnownBytes.{Keeps, ReadConsumes, WriteAppends}
+use Rattle.std.proofs.Common.{sym}
 use Rattle.snd_host.specs.Host.{HostState}
+use Rattle.snd_host.specs.History.{ended_of}
 use Rattle.snd_host.specs.Calls.{Call}
 use Rattle.disk_host.specs.Texts.{Texts}
-use Rattle.disk_host.specs.NoContents.{state_without_contents}
-use Rattle.disk_host.specs.Created.{flags_of, known_or, known_at}
+use Rattle.disk_host.specs.Untold.{untold_state}
+use Rattle.disk_host.specs.Created.{flags_of, known_or, known_of}
 use Rattle.disk_host.specs.declared.host.DiskHost.{DiskHost}
 
 -- the host at a moment: the calls that were made of it, its current input, which created outputs have ended, its counts of faults, and whether its last
 -- call failed; it shows no bytes and no rooms
 abbrev pub disk_state : {D F : Type 0} → DiskHost D F → HostState
 disk_state host =
-    state_without_contents host.log.calls (option_map (λ _. host.newest) host.input) (flags_of host.created.items) host.in_faults host.note_faults host.out_faults host.failed_last
+    untold_state host.kept.log.calls (option_map (λ _. host.newest) host.input) (flags_of host.kept.created.items) host.in_faults host.note_faults host.out_faults host.failed_last
+
+-- an output was ended where its end was called
+pub disk_counted_lem : {D F : Type 0} → (host : DiskHost D F) → (disk_state host).ended ≡ ended_of (disk_state host).calls
+disk_counted_lem host = sym host.kept.ended_is
 
 -- the disk of a host
 abbrev pub disk_of : {D F : Type 0} → DiskHost D F → D
@@ -26,9 +32,7 @@ input_number number host = known_or number 0 host.input
 
 -- The number of the file that is the output of a number of the host's. Report and complaint have the same number for both; where there is none, it is 0.
 abbrev pub output_number : {D F : Type 0} → (number : F → ℕ) → DiskHost D F → (output : ℕ) → ℕ
-output_number number host zero = 0
-output_number number host (suc zero) = 1
-output_number number host (suc (suc place)) = known_at number 0 host.created.items place
+output_number number host output = known_of number 0 0 1 host.kept.created.items output
 
 -- The output of each number is the file that it was, but for that of this one.
 abbrev pub KeepsOutputsBut : {D F : Type 0} → (but : ℕ) → (number : F → ℕ) → (old new : DiskHost D F) → Type 0
@@ -57,9 +61,7 @@ Tells F = F → Option (List ℕ)
 
 -- what is known of the output of a number: 0 is the report, 1 the complaint
 abbrev pub held_by : {D F : Type 0} → Tells F → (D → Texts) → DiskHost D F → (number : ℕ) → Option (List ℕ)
-held_by files texts host zero = (texts host.disk).report
-held_by files texts host (suc zero) = (texts host.disk).complaint
-held_by files texts host (suc (suc place)) = known_at files None host.created.items place
+held_by files texts host number = known_of files None (texts host.disk).report (texts host.disk).complaint host.kept.created.items number
 
 -- The bytes that were read are the next ones of the current input, and none come only at its end.
 abbrev pub ReadsOn : {D F X : Type 0} → Tells F → (buf : List ℕ) → (old new : DiskHost D F) → Result ℕ X → Type 0

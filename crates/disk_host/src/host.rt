@@ -1,9 +1,9 @@
 // The host of real files: it shows no contents, and passes on what a file knows of its bytes.
-ghost use Rattle.std.specs.Prelude.{◌≡◌, ◌≢◌, ◌<◌, ℕ, ◌≤◌, ◌∷◌, ◌++◌, length, IfOk, drop, None, Some, [], false, is_ok, slice_get, slice_set};
+ghost use Rattle.std.specs.Prelude.{◌≡◌, ◌≢◌, ◌<◌, ℕ, ◌≤◌, ◌∷◌, ◌++◌, ◌-◌, length, IfOk, drop, None, Some, [], false, is_ok, slice_get, slice_set};
 ghost use Rattle.snd_host.specs.Calls.{open_call, read_call, create_call, write_call, finish_call};
-ghost use Rattle.disk_host.specs.NoContents.{state_without_contents};
+ghost use Rattle.snd_host.specs.History.{ended_of};
+ghost use Rattle.disk_host.specs.Untold.{untold_state};
 ghost use Rattle.disk_host.specs.Created.{flags_of, known_at};
-ghost use Rattle.disk_host.specs.Held.{held_by};
 ghost use Rattle.std.specs.Io.KnownBytes.{Keeps, WriteAppends};
 
 use crate::Disk;
@@ -25,26 +25,33 @@ struct Created<F> {
 /// The created outputs, each at its place.
 type Places<F> = ArrayVec<Option<Created<F>>, MAX_CREATED>;
 
+/// What a host keeps of its calls: the outputs that were created, and all calls that were made.
+#[derive(Drop)]
+struct Kept<F> {
+    created: Places<F>,
+    log: Log,
+    ghost ended_is: { ended_of log.calls ≡ flags_of created.items },
+}
+
 /// A host over a disk. It asks the disk once in each call, and fails where the disk does.
 #[derive(Drop)]
 pub struct DiskHost<D: Disk + Drop> {
     disk: D,
     input: Option<D::File>,
     newest: u32,
-    created: Places<D::File>,
+    kept: Kept<D::File>,
     in_faults: u64,
     note_faults: u64,
     out_faults: u64,
     failed_last: bool,
-    log: Log,
 }
 
 impl<D: Disk + Drop> DiskHost<D> {
-    ghost use Rattle.disk_host.specs.Held.{disk_of};
+    ghost use Rattle.disk_host.specs.Held.{disk_of, held_by};
 
     /// A host without inputs, outputs or faults, which has asked the disk of nothing.
     pub fn new(disk: D) -> Self
-        ensures state { ⟦<DiskHost<D> as Host>⟧.state result ≡ state_without_contents [] None [] 0 0 0 false }
+        ensures state { ⟦<DiskHost<D> as Host>⟧.state result ≡ untold_state [] None [] 0 0 0 false }
         ensures disk { disk_of result ≡ disk }
         ensures report { held_by D.held D.texts result 0 ≡ (D.texts disk).report }
         ensures complaint { held_by D.held D.texts result 1 ≡ (D.texts disk).complaint }
@@ -53,12 +60,14 @@ impl<D: Disk + Drop> DiskHost<D> {
             disk,
             input: None,
             newest: 0,
-            created: ArrayVec::new(),
+            kept: Kept {
+                created: ArrayVec::new(),
+                log: Log::none(),
+            },
             in_faults: 0,
             note_faults: 0,
             out_faults: 0,
             failed_last: false,
-            log: Log::none(),
         }
     }
 }
@@ -128,16 +137,55 @@ fn end_created<D: Disk>(
     outcome
 }
 
+impl<F: Drop> Kept<F> {
+    ghost use Rattle.std.specs.Prelude.{◌++◌, Some};
+    ghost use Rattle.snd_host.specs.Calls.{created};
+    ghost use Rattle.disk_host.specs.Created.{max_created};
+
+    /// Adds an output that was created, with its number.
+    fn add(&mut self, name: &str, number: u32, file: F)
+        requires { length self.old.created.items < max_created }
+        ensures created { self.new.created.items ≡ self.old.created.items ++ Some (record { file = file; ended = false }) ∷ [] }
+        ensures calls { self.new.log.calls ≡ created name.now number ∷ self.old.log.calls }
+    {
+        self.created.push(Some(Created { file, ended: false }));
+        note_create(&mut self.log, name, Ok(OutFile(number)));
+    }
+}
+
+/// Ends the created output of this number, and notes it.
+fn end_output<D: Disk>(
+    disk: &mut D,
+    kept: &mut Kept<D::File>,
+    number: u32,
+) -> Result<(), Failed>
+    requires created { 2 ≤ number }
+    requires open_yet { slice_get (flags_of kept.old.created.items) (number - 2) ≡ Some false }
+    ensures flags { flags_of kept.new.created.items ≡ slice_set (flags_of kept.old.created.items) (number - 2) (is_ok result) }
+    ensures calls { kept.new.log.calls ≡ finish_call number result ∷ kept.old.log.calls }
+    ensures bytes { (other : ℕ) → Keeps (known_at D.held None kept.old.created.items other) (known_at D.held None kept.new.created.items other) }
+    ensures files { (other : ℕ) → known_at D.number 0 kept.new.created.items other ≡ known_at D.number 0 kept.old.created.items other }
+    ensures asked { D.calls disk.new ≡ finish_call (known_at D.number 0 kept.old.created.items (number - 2)) result ∷ D.calls disk.old }
+    ensures texts { D.texts disk.new ≡ D.texts disk.old }
+{
+    let outcome = end_created(disk, &mut kept.created, (number - 2) as usize);
+    note_finish(&mut kept.log, number as u64, outcome);
+    outcome
+}
+
 impl<D: Disk + Drop> Host for DiskHost<D> {
-    ghost use Rattle.std.specs.Prelude.{◌+◌, ◌-◌, ◌++◌, ◌∷◌, Some, IsSome, IsOk, OnOk, OnErr, true, is_err, take, slice_get, slice_index};
+    ghost use Rattle.std.specs.Prelude.{◌+◌, ◌++◌, ◌∷◌, Some, IsSome, IsOk, OnOk, OnErr, true, is_err, take, slice_get, slice_index};
+    ghost use Rattle.snd_host.specs.Follows.{Makes};
     ghost use Rattle.snd_host.specs.OpenedInputs.{Opens, ReadsMore};
     ghost use Rattle.snd_host.specs.Host.{IfKnown, HasCause, CountsWrite, EndsByWrite, IsOpen, ChangesInputs, ChangesOutputs, KeepsRooms, Writes, max_outputs, longest_output_name};
     ghost use Rattle.disk_host.specs.Created.{max_created};
-    ghost use Rattle.disk_host.specs.Held.{disk_state, input_number, output_number, KeepsInput, KeepsOutputs, KeepsOutputsBut, AsksOnce, FailsUnasked, ReadsOn, WritesOn, HoldsStay, InputStays};
+    ghost use Rattle.disk_host.specs.Held.{disk_state, disk_counted_lem, input_number, output_number, KeepsInput, KeepsOutputs, KeepsOutputsBut, AsksOnce, FailsUnasked, ReadsOn, WritesOn, HoldsStay, InputStays};
 
     ghost state = { disk_state };
 
     ghost tells_each = { λ host given known. absurd (Prim.cc) };
+
+    ghost counted = { disk_counted_lem };
 
     fn open_in(&mut self, name: &str) -> Result<InFile, Failed>
         ensures current { IfOk result (λ file. (disk_state self.new).current ≡ Some file.0) }
@@ -151,7 +199,7 @@ impl<D: Disk + Drop> Host for DiskHost<D> {
         ensures others { ChangesInputs (disk_state self.old) (disk_state self.new) }
         ensures cause { HasCause (disk_state self.old).faults.inputs (disk_state self.new).faults.inputs result }
         ensures last { (disk_state self.new).failed_last ≡ is_err result }
-        ensures made { (disk_state self.new).calls ≡ open_call (λ file. file.0) name.now result ∷ (disk_state self.old).calls }
+        ensures made { Makes (open_call (λ file. file.0) name.now result) (disk_state self.old) (disk_state self.new) }
         // A steady host fails only at a name that is not there.
         ensures steady { IsSome (disk_state self.old).steady →
             IfKnown (disk_state self.old).holds (λ files. IsSome (files name.now) → IsOk result) }
@@ -163,7 +211,7 @@ impl<D: Disk + Drop> Host for DiskHost<D> {
     {
         self.input = None;
         let Ok(file) = self.disk.open(name) else {
-            note_open(&mut self.log, name, Err(Failed));
+            note_open(&mut self.kept.log, name, Err(Failed));
             self.in_faults = self.in_faults.saturating_add(1);
             self.failed_last = true;
             return Err(Failed);
@@ -171,7 +219,7 @@ impl<D: Disk + Drop> Host for DiskHost<D> {
         self.newest = self.newest.wrapping_add(1);
         self.input = Some(file);
         self.failed_last = false;
-        note_open(&mut self.log, name, Ok(InFile(self.newest)));
+        note_open(&mut self.kept.log, name, Ok(InFile(self.newest)));
         Ok(InFile(self.newest))
     }
 
@@ -192,7 +240,7 @@ impl<D: Disk + Drop> Host for DiskHost<D> {
         ensures others { ChangesInputs (disk_state self.old) (disk_state self.new) }
         ensures cause { HasCause (disk_state self.old).faults.inputs (disk_state self.new).faults.inputs result }
         ensures last { (disk_state self.new).failed_last ≡ is_err result }
-        ensures made { (disk_state self.new).calls ≡ read_call file.0 (length buf.old) buf.new result ∷ (disk_state self.old).calls }
+        ensures made { Makes (read_call file.0 (length buf.old) buf.new result) (disk_state self.old) (disk_state self.new) }
         ensures steady { IsSome (disk_state self.old).steady → IsOk result }
         // Where the file knows its bytes, these are the next ones, and none come only at its end.
         ensures bytes { ReadsOn D.left buf.new self.old self.new result }
@@ -207,11 +255,11 @@ impl<D: Disk + Drop> Host for DiskHost<D> {
             unreachable!()
         };
         if let Ok(count) = self.disk.read(input, buf) {
-            note_read(&mut self.log, file.0 as u64, room, buf, Ok(count));
+            note_read(&mut self.kept.log, file.0 as u64, room, buf, Ok(count));
             self.failed_last = false;
             return Ok(count);
         }
-        note_read(&mut self.log, file.0 as u64, room, buf, Err(Failed));
+        note_read(&mut self.kept.log, file.0 as u64, room, buf, Err(Failed));
         self.in_faults = self.in_faults.saturating_add(1);
         self.failed_last = true;
         Err(Failed)
@@ -229,7 +277,7 @@ impl<D: Disk + Drop> Host for DiskHost<D> {
         ensures notes { (disk_state self.new).faults.notes ≡ (disk_state self.old).faults.notes }
         ensures cause { HasCause (disk_state self.old).faults.outputs (disk_state self.new).faults.outputs result }
         ensures last { (disk_state self.new).failed_last ≡ is_err result }
-        ensures made { (disk_state self.new).calls ≡ create_call (λ file. file.0) name.now result ∷ (disk_state self.old).calls }
+        ensures made { Makes (create_call (λ file. file.0) name.now result) (disk_state self.old) (disk_state self.new) }
         // A steady host fails only past its rooms or at a name that is longer than the longest.
         ensures steady { IfKnown (disk_state self.old).steady (λ rooms.
             length (disk_state self.old).ended + 2 < length rooms → length name.now ≤ longest_output_name → IsOk result) }
@@ -246,21 +294,20 @@ impl<D: Disk + Drop> Host for DiskHost<D> {
         ensures same_input { KeepsInput D.number self.old self.new }
         ensures outputs { KeepsOutputsBut (length (disk_state self.old).ended + 2) D.number self.old self.new }
     {
-        let number = self.created.len() as u32 + 2;
-        if self.created.is_full() {
-            note_create(&mut self.log, name, Err(Failed));
+        let number = self.kept.created.len() as u32 + 2;
+        if self.kept.created.is_full() {
+            note_create(&mut self.kept.log, name, Err(Failed));
             self.out_faults = self.out_faults.saturating_add(1);
             self.failed_last = true;
             return Err(Failed);
         }
         let Ok(file) = self.disk.create(name) else {
-            note_create(&mut self.log, name, Err(Failed));
+            note_create(&mut self.kept.log, name, Err(Failed));
             self.out_faults = self.out_faults.saturating_add(1);
             self.failed_last = true;
             return Err(Failed);
         };
-        self.created.push(Some(Created { file, ended: false }));
-        note_create(&mut self.log, name, Ok(OutFile(number)));
+        self.kept.add(name, number, file);
         self.failed_last = false;
         Ok(OutFile(number))
     }
@@ -273,7 +320,7 @@ impl<D: Disk + Drop> Host for DiskHost<D> {
         ensures unwritten { OnErr result (Writes file.0 [] (disk_state self.old) (disk_state self.new)) }
         ensures cause { CountsWrite file.0 (disk_state self.old).faults (disk_state self.new).faults result }
         ensures last { EndsByWrite file.0 (disk_state self.old) (disk_state self.new) result }
-        ensures made { (disk_state self.new).calls ≡ write_call file.0 piece.now result ∷ (disk_state self.old).calls }
+        ensures made { Makes (write_call file.0 piece.now result) (disk_state self.old) (disk_state self.new) }
         ensures steady { IfKnown (disk_state self.old).steady (λ rooms. length piece.now ≤ slice_index rooms file.0 → IsOk result) }
         // Where the output knows its bytes, those taken come after them, and no other output changes.
         ensures bytes { WritesOn D.held D.texts file.0 piece.now self.old self.new result }
@@ -286,32 +333,32 @@ impl<D: Disk + Drop> Host for DiskHost<D> {
     {
         if file.0 == 1 {
             if let Ok(count) = self.disk.complain(piece) {
-                note_write(&mut self.log, 1, piece, Ok(count));
+                note_write(&mut self.kept.log, 1, piece, Ok(count));
                 return Ok(count);
             }
-            note_write(&mut self.log, 1, piece, Err(Failed));
+            note_write(&mut self.kept.log, 1, piece, Err(Failed));
             self.note_faults = self.note_faults.saturating_add(1);
             return Err(Failed);
         }
         if file.0 == 0 {
             let Ok(count) = self.disk.report(piece) else {
-                note_write(&mut self.log, 0, piece, Err(Failed));
+                note_write(&mut self.kept.log, 0, piece, Err(Failed));
                 self.out_faults = self.out_faults.saturating_add(1);
                 self.failed_last = true;
                 return Err(Failed);
             };
-            note_write(&mut self.log, 0, piece, Ok(count));
+            note_write(&mut self.kept.log, 0, piece, Ok(count));
             self.failed_last = false;
             return Ok(count);
         }
         let place = (file.0 - 2) as usize;
-        let Ok(count) = write_created(&mut self.disk, &mut self.created, place, piece) else {
-            note_write(&mut self.log, file.0 as u64, piece, Err(Failed));
+        let Ok(count) = write_created(&mut self.disk, &mut self.kept.created, place, piece) else {
+            note_write(&mut self.kept.log, file.0 as u64, piece, Err(Failed));
             self.out_faults = self.out_faults.saturating_add(1);
             self.failed_last = true;
             return Err(Failed);
         };
-        note_write(&mut self.log, file.0 as u64, piece, Ok(count));
+        note_write(&mut self.kept.log, file.0 as u64, piece, Ok(count));
         self.failed_last = false;
         Ok(count)
     }
@@ -326,7 +373,7 @@ impl<D: Disk + Drop> Host for DiskHost<D> {
         ensures notes { (disk_state self.new).faults.notes ≡ (disk_state self.old).faults.notes }
         ensures cause { HasCause (disk_state self.old).faults.outputs (disk_state self.new).faults.outputs result }
         ensures last { (disk_state self.new).failed_last ≡ is_err result }
-        ensures made { (disk_state self.new).calls ≡ finish_call file.0 result ∷ (disk_state self.old).calls }
+        ensures made { Makes (finish_call file.0 result) (disk_state self.old) (disk_state self.new) }
         ensures steady { IsSome (disk_state self.old).steady → IsOk result }
         ensures rooms { KeepsRooms (disk_state self.old) (disk_state self.new) }
         // No output changes.
@@ -338,12 +385,10 @@ impl<D: Disk + Drop> Host for DiskHost<D> {
         ensures same_input { KeepsInput D.number self.old self.new }
         ensures outputs { KeepsOutputs D.number self.old self.new }
     {
-        if end_created(&mut self.disk, &mut self.created, (file.0 - 2) as usize).is_ok() {
-            note_finish(&mut self.log, file.0 as u64, Ok(()));
+        if end_output(&mut self.disk, &mut self.kept, file.0).is_ok() {
             self.failed_last = false;
             return Ok(());
         }
-        note_finish(&mut self.log, file.0 as u64, Err(Failed));
         self.out_faults = self.out_faults.saturating_add(1);
         self.failed_last = true;
         Err(Failed)

@@ -1,10 +1,10 @@
 -- Calls one after another, and those that write. What calls agree with goes through them one by one, so two lists that do are one list that does.
-use Rattle.std.proofs.Common.{◌≡◌, ◌≢◌, ℕ, ◌≤◌, List, [], ◌∷◌, ◌++◌, Option, Some, length, take, drop, refl, sym, ap, ◌∙◌, subst, arith, ◌+◌, ◌<◌, length-drop, length-take, take-add}
+use Rattle.std.proofs.Common.{◌≡◌, ◌≢◌, ℕ, ◌≤◌, Bool, List, [], ◌∷◌, ◌++◌, Option, Some, length, take, drop, refl, sym, ap, ◌∙◌, subst, arith, ◌+◌, ◌<◌, length-drop, length-take, take-add}
 use Rattle.std.specs.List.{AllByRecursion}
 use Rattle.std.proofs.lemmas.List.{append_assoc, append-nil, take-append-drop}
 use Rattle.snd_host.specs.Calls.{Call, opened, not_opened, read, not_read, created, not_created, wrote, not_written, finished, not_finished}
-use Rattle.snd_host.specs.Host.{HostState, Files}
-use Rattle.snd_host.specs.History.{AreTrueOf, AreSteadyCalls, rooms_after, rooms_over}
+use Rattle.snd_host.specs.Host.{HostState, Files, IsOpen}
+use Rattle.snd_host.specs.History.{ended_of, AreTrueOf, AreSteadyCalls, rooms_after, rooms_over}
 use Rattle.snd_host.specs.Follows.{pushed, Makes, Since, IsCut, IsWrite, AreWrites, bytes_written}
 
 pub pushed_more : (xs ys before : List Call) → pushed (xs ++ ys) before ≡ pushed ys (pushed xs before)
@@ -46,7 +46,7 @@ since_then xs ys a b c first second = record {
       let one = first.steady rooms known in
       let two = second.steady (rooms_over xs rooms) one.1 in (
         steady_then a.holds xs ys a.calls rooms one.0
-        (subst (λ (l : List Call). AreSteadyCalls a.holds (rooms_over xs rooms) l ys) first.calls (subst (λ (h : Option Files). AreSteadyCalls h (rooms_over xs rooms) b.calls ys) first.holds two.0)),
+            (subst (λ (l : List Call). AreSteadyCalls a.holds (rooms_over xs rooms) l ys) first.calls (subst (λ (h : Option Files). AreSteadyCalls h (rooms_over xs rooms) b.calls ys) first.holds two.0)),
         two.1 ∙ ap (λ (l : List ℕ). Some l) (sym (rooms_over-append xs ys rooms)),
       );
 }
@@ -61,7 +61,7 @@ each_more : (file : ℕ) (xs ys : List Call) → AllByRecursion (IsWrite file) x
 each_more file [] ys first second = second
 each_more file (x ∷ xs) ys first second = (first.0, each_more file xs ys first.1 second)
 
-bytes_more : (xs ys : List Call) → bytes_written (xs ++ ys) ≡ bytes_written xs ++ bytes_written ys
+pub bytes_more : (xs ys : List Call) → bytes_written (xs ++ ys) ≡ bytes_written xs ++ bytes_written ys
 bytes_more [] ys = refl
 bytes_more (wrote f bytes ∷ xs) ys = ap (λ (l : List ℕ). bytes ++ l) (bytes_more xs ys) ∙ sym (append_assoc bytes (bytes_written xs) (bytes_written ys))
 bytes_more (opened name n ∷ xs) ys = bytes_more xs ys
@@ -74,6 +74,19 @@ bytes_more (not_written n piece ∷ xs) ys = bytes_more xs ys
 bytes_more (finished n ∷ xs) ys = bytes_more xs ys
 bytes_more (not_finished n ∷ xs) ys = bytes_more xs ys
 
+-- what holds of each write of some bytes to an output
+pub write_is : (file : ℕ) (P : Call → Type 0) → ((bytes : List ℕ) → bytes ≢ [] → P (wrote file bytes)) → (c : Call) → IsWrite file c → P c
+write_is file P holds (wrote f bytes) is = subst (λ (n : ℕ). P (wrote n bytes)) (sym is.0) (holds bytes is.1)
+write_is file P holds (opened name n) is = absurd is
+write_is file P holds (not_opened name) is = absurd is
+write_is file P holds (read n room bytes) is = absurd is
+write_is file P holds (not_read n room) is = absurd is
+write_is file P holds (created name n) is = absurd is
+write_is file P holds (not_created name) is = absurd is
+write_is file P holds (not_written n piece) is = absurd is
+write_is file P holds (finished n) is = absurd is
+write_is file P holds (not_finished n) is = absurd is
+
 pub one_write : (file : ℕ) (bytes : List ℕ) → bytes ≢ [] → AreWrites file bytes (wrote file bytes ∷ [])
 one_write file bytes some = record { each = ((refl, some), tt); joined = append-nil bytes }
 
@@ -82,6 +95,17 @@ writes_then file p q xs ys first second = record {
   each = each_more file xs ys first.each second.each;
   joined = bytes_more xs ys ∙ ap (λ (l : List ℕ). l ++ bytes_written ys) first.joined ∙ ap (λ (l : List ℕ). p ++ l) second.joined;
 }
+
+-- what no write changes, writes don't
+pub kept-writes : {A : Type 0} (file : ℕ) (f : List Call → A) → ((bytes : List ℕ) (before : List Call) → f (wrote file bytes ∷ before) ≡ f before) → (calls before : List Call) → AllByRecursion (IsWrite file) calls →
+    f (pushed calls before) ≡ f before
+kept-writes file f same [] before each = refl
+kept-writes file f same (c ∷ calls) before each = kept-writes file f same calls (c ∷ before) each.1 ∙ write_is file (λ c. f (c ∷ before) ≡ f before) (λ bytes some. same bytes before) c each.0
+
+-- an output that can be written can be written still after writes
+pub still_open : (file : ℕ) (bytes : List ℕ) (calls : List Call) (a b : HostState) → Since calls a b → AreWrites file bytes calls → (n : ℕ) → IsOpen (ended_of a.calls) n → IsOpen (ended_of b.calls) n
+still_open file bytes calls a b since writes n open_yet =
+    subst (λ (e : List Bool). IsOpen e n) (sym (ap ended_of since.calls ∙ kept-writes file ended_of (λ bytes before. refl) calls a.calls writes.each)) open_yet
 
 not_empty : (n : ℕ) (l : List ℕ) → n < length l → drop n l ≢ []
 not_empty n l within none = let e = ap (length {A = ℕ}) none in absurd (omega (arith, length-drop n l, e))

@@ -1,12 +1,13 @@
 -- The outputs of a host in memory.
-use Rattle.std.proofs.Common.{◌≡◌, ◌≢◌, ℕ, zero, suc, ◌+◌, ◌-◌, ◌<◌, Bool, false, List, [], ◌∷◌, ◌++◌, length, get_or, set, map, Some, refl, sym, ◌∙◌, ap, subst, arith}
+use Rattle.std.proofs.Common.{◌≡◌, ◌≢◌, ℕ, zero, suc, ◌-◌, ◌<◌, Bool, false, List, [], ◌∷◌, ◌++◌, length, get_or, set, map, Some, refl, sym, ◌∙◌, ap, subst, arith}
 use Rattle.std.specs.Prelude.{slice_get}
-use Rattle.std.proofs.lemmas.List.{length-map, length-append, map-append, append_assoc}
+use Rattle.std.specs.Option.{option_map_or}
+use Rattle.std.proofs.lemmas.List.{length-map, map-append, append_assoc}
 use Rattle.std.proofs.lemmas.Option.{slice_get_within}
 use Rattle.snd_host.specs.Host.{Output, IsOpen, outputs_with, rooms_less}
-use Rattle.snd_host.specs.Memory.{output_of}
-use Rattle.snd_host.specs.declared.memory.Slot.{Slot}
-use Rattle.snd_host.specs.declared.memory.Spare.{Spare}
+use Rattle.snd_host.specs.Parts.{output_of}
+use Rattle.snd_host.specs.declared.outputs.Slot.{Slot}
+use Rattle.snd_host.specs.declared.outputs.Spare.{Spare}
 
 -- an output that is neither the report nor the complaint was created
 number_is : (n : ℕ) → n ≢ 0 → n ≢ 1 → n ≡ suc (suc (n - 2))
@@ -39,21 +40,22 @@ room_set [] rest place new within = absurd (omega arith)
 room_set (s ∷ slots) rest zero new within = refl
 room_set (s ∷ slots) rest (suc place) new within = ap (λ (l : List ℕ). s.sink.room ∷ l) (room_set slots rest place new (omega arith))
 
-abbrev pub ended_of : List Slot → List Bool
-ended_of slots = map (λ slot. slot.ended) slots
+-- for each slot, whether it was ended
+abbrev pub flags_of : List Slot → List Bool
+flags_of slots = map (λ slot. slot.ended) slots
 
-pub slot_there : (slots : List Slot) (place : ℕ) → slice_get (ended_of slots) place ≡ Some false → place < length slots
-slot_there slots place h = omega (arith, slice_get_within (ended_of slots) place false h, length-map slots (λ slot. slot.ended))
+pub slot_there : (slots : List Slot) (place : ℕ) → slice_get (flags_of slots) place ≡ Some false → place < length slots
+slot_there slots place h = omega (arith, slice_get_within (flags_of slots) place false h, length-map slots (λ slot. slot.ended))
 
 -- the number of an output that was created: its place among the created ones, after the report and the complaint
 pub record IsCreated (slots : List Slot) (n : ℕ) : Type 0 where
   pub number : n ≡ suc (suc (n - 2))
   pub within : n - 2 < length slots
 
-pub created_there : (slots : List Slot) (n : ℕ) → n ≢ 0 → n ≢ 1 → IsOpen (ended_of slots) n → IsCreated slots n
+pub created_there : (slots : List Slot) (n : ℕ) → n ≢ 0 → n ≢ 1 → IsOpen (flags_of slots) n → IsCreated slots n
 created_there slots n not_report not_complaint open_yet = record {
   number = number_is n not_report not_complaint;
-  within = slot_there slots (n - 2) (open_created (ended_of slots) n not_report not_complaint open_yet);
+  within = slot_there slots (n - 2) (open_created (flags_of slots) n not_report not_complaint open_yet);
 }
 
 -- the rooms of created and not yet created outputs stay in their order
@@ -66,10 +68,11 @@ rooms_created slots later spares rest spare slot pushed popped same =
     ∙ ap (λ (n : ℕ). map (λ s. s.sink.room) slots ++ (n ∷ map (λ s. s.room) rest)) same
     ∙ ap (λ (l : List Spare). map (λ s. s.sink.room) slots ++ map (λ s. s.room) l) (sym popped)
 
--- no room is left to take where no spare is
-pub no_spare : (slots : List Slot) (spares : List Spare) (report complaint : ℕ) (rooms : List ℕ) → length spares ≡ 0 → report ∷ complaint ∷ (map (λ s. s.sink.room) slots ++ map (λ s. s.room) spares) ≡ rooms → length (ended_of slots) + 2 < length rooms → ⊥
-no_spare slots spares report complaint rooms none is fits =
-    omega (arith, ap length is, length-append (map (λ s. s.sink.room) slots) (map (λ s. s.room) spares), length-map slots (λ (s : Slot). s.sink.room), length-map spares (λ (s : Spare). s.room), length-map slots (λ (s : Slot). s.ended), fits, none)
+-- what a created output was given
+pub created_bytes : (slots : List Slot) (place : ℕ) → option_map_or (λ output. output.bytes) (slice_get (map output_of slots) place) [] ≡ option_map_or (λ slot. slot.sink.bytes.items) (slice_get slots place) []
+created_bytes [] place = refl
+created_bytes (s ∷ slots) zero = refl
+created_bytes (s ∷ slots) (suc place) = created_bytes slots place
 
 -- the outputs and the rooms after a write to a created output
 module _ (slots : List Slot) (place : ℕ) (slot new : Slot) (piece : List ℕ) (within : place < length slots) (is : slot ≡ get_or slots place slot) where

@@ -3,7 +3,7 @@ use Rattle.std.proofs.Common.{◌≡◌, ◌≢◌, ◌⊎◌, inl, inr, ℕ, ze
 use Rattle.std.specs.Prelude.{Vec}
 use Rattle.std.specs.List.{AllByRecursion}
 use Rattle.std.specs.declared.alloc.Global.{Global}
-use Rattle.std.proofs.lemmas.List.{append_assoc, append-nil, take-append-le}
+use Rattle.std.proofs.lemmas.List.{append_assoc, append-nil, take-append-le, length-append}
 use Rattle.snd_host.specs.Calls.{Call, opened, not_opened, read, not_read, created, not_created, wrote, not_written, finished, not_finished}
 use Rattle.snd_host.specs.Host.{HostState}
 use Rattle.snd_host.specs.Follows.{Makes, Since}
@@ -133,3 +133,6 @@ length_taken xs n within = omega (arith, length-take n xs)
 
 pub same_front : (xs ys : List ℕ) (n : ℕ) → n ≤ length xs → take n xs ≡ take n (xs ++ ys)
 same_front xs ys n within = sym (take-append-le n xs ys within)
+
+pub length_front : (xs ys : List ℕ) (n : ℕ) → n ≤ length xs → length (take n (xs ++ ys)) ≡ n
+length_front xs ys n within = omega (arith, length-take n (xs ++ ys), length-append xs ys)

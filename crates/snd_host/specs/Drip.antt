@@ -1,9 +1,6 @@
 -- What contracts see of a host in memory that gives and takes one byte at a time.
-use Rattle.std.specs.Prelude.{◌≡◌}
-use Rattle.std.proofs.Common.{sym, ◌∙◌}
 use Rattle.snd_host.specs.Host.{HostState}
-use Rattle.snd_host.specs.History.{ended_of}
-use Rattle.snd_host.specs.Memory.{memory_state, counted_lem}
+use Rattle.snd_host.specs.Memory.{memory_state}
 use Rattle.snd_host.specs.declared.memory.MemHost.{MemHost}
 use Rattle.snd_host.specs.declared.drip.DripHost.{DripHost}
 
@@ -14,7 +11,3 @@ inside host = host.host
 -- It is at a moment what the host inside is, but for its calls: of those that were made of it, a read shows its own buffer, and a failed write its piece.
 abbrev pub drip_state : DripHost → HostState
 drip_state host = record (memory_state (inside host)) { calls = host.log.calls }
-
--- an output was ended where its end was called
-pub drip_counted_lem : (host : DripHost) → (drip_state host).ended ≡ ended_of (drip_state host).calls
-drip_counted_lem host = counted_lem (inside host) ∙ sym host.ended_is

