@@ -7,7 +7,6 @@ pub mod Ending
 pub mod Fitting
 pub mod Given
 pub mod GoesByInputs
-pub mod Held
 pub mod Known
 pub mod Making
 pub mod OfRuns

@@ -1,6 +1,6 @@
 -- A run on a steady host: of its calls for inputs only an opening fails, where there is no such input, and of those for outputs, report and complaint
 -- none, where there is room for all that they are given.
-use Rattle.std.proofs.Common.{◌≡◌, ◌≢◌, ◌⊎◌, inl, inr, ℕ, ◌+◌, ◌≤◌, List, [], ◌++◌, length, Option, Some, None, refl, sym, ap, ◌∙◌, subst, arith}
+use Rattle.std.proofs.Common.{◌≡◌, ◌≢◌, ◌⊎◌, inl, inr, ℕ, ◌+◌, ◌≤◌, List, [], ◌++◌, length, Option, Some, None, refl, sym, ap, ◌∙◌, subst, arith, rules}
 use Rattle.std.specs.Prelude.{slice_index, IsSome, unwrap_or}
 use Rattle.snd_host.specs.Calls.{Call}
 use Rattle.snd_host.specs.Follows.{pushed, IsCut, AreWrites}
@@ -23,7 +23,6 @@ use Rattle.run_laws.specs.Run.{IsRun, answered}
 use Rattle.run_laws.proofs.Delivering.{line_not_cut}
 use Rattle.run_laws.proofs.DeliveryEnds.{no_write_fault}
 use Rattle.run_laws.proofs.GoesByInputs.{goes_by}
-use Rattle.run_laws.proofs.Held.{is_there}
 use Rattle.run_laws.proofs.Known.{answer_known, line_known, true_of_taken, truthful_known}
 use Rattle.run_laws.proofs.OfRuns.{of_run}
 use Rattle.run_laws.proofs.RoomsKept.{complaint_room_kept}
@@ -104,4 +103,4 @@ module _ (command : Command) (old new : HostState) (status : Status) (run : IsRu
 
 -- the rooms of a host that is steady
 pub steady_rooms : (steady : Option (List ℕ)) → IsSome steady → steady ≡ Some (unwrap_or steady [])
-steady_rooms = is_there
+steady_rooms steady is = search rules
