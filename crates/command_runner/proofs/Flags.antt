@@ -60,6 +60,13 @@ writes_keep targets calls history each = kept ended_of calls history (each_as (I
 pub written_keeps : {T : Type 0} (file : ℕ) (bytes : List ℕ) (a b : HostState) (x : T) → Follows {T = T} {E = Failed} (AreWrites file bytes) a b (Ok x) → ended_of b.calls ≡ ended_of a.calls
 written_keeps file bytes a b x f = ap ended_of f.since.calls ∙ kept ended_of f.calls a.calls (each_written file bytes KeepsFlags (λ piece some history. refl) f.calls f.does)
 
+-- also where one of the writes failed
+pub writes_keep_flags : {T : Type 0} (file : ℕ) (bytes : List ℕ) (a b : HostState) (result : Result T Failed) → Follows (AreWrites file bytes) a b result → ended_of b.calls ≡ ended_of a.calls
+writes_keep_flags file bytes a b (Ok x) f = written_keeps file bytes a b x f
+writes_keep_flags file bytes a b (Err e) f =
+    ap ended_of f.since.calls
+    ∙ kept_cut ended_of (AreWrites file bytes) (each_written file bytes KeepsFlags (λ piece some history. refl)) (each_written file bytes (λ call. KeepsFlags (failure_of call)) (λ piece some history. refl)) f.calls a.calls f.does
+
 pub since_writes : (targets : List Target) (calls : List Call) (a b : HostState) → Since calls a b → AreWoven targets calls → ended_of b.calls ≡ ended_of a.calls
 since_writes targets calls a b since woven = ap ended_of since.calls ∙ writes_keep targets calls a.calls woven.each
 
@@ -145,6 +152,11 @@ get_set_other (f ∷ flags) (suc i) (suc j) b other = get_set_other flags i j b 
 pub open_yet : (n m : ℕ) (a b : HostState) → 2 ≤ n → 2 ≤ m → n ≢ m → Makes (finished n) a b → slice_get (ended_of a.calls) (m - 2) ≡ Some false → slice_get (ended_of b.calls) (m - 2) ≡ Some false
 open_yet n m a b low next other made is =
     ap (λ (l : List Call). slice_get (ended_of l) (m - 2)) made.calls ∙ get_set_other (ended_of a.calls) (n - 2) (m - 2) true (λ same. other (omega arith)) ∙ is
+
+-- an ending keeps how many outputs there are, whether it failed or not
+pub finish_counts : {T E : Type 0} (n : ℕ) (a b : HostState) (result : Result T E) → Makes (finish_call n result) a b → length (ended_of b.calls) ≡ length (ended_of a.calls)
+finish_counts n a b (Ok x) made = ap (λ (l : List Call). length (ended_of l)) made.calls ∙ length-set (ended_of a.calls) (n - 2) true
+finish_counts n a b (Err e) made = ap (λ (l : List Call). length (ended_of l)) made.calls
 
 -- Outputs that were made one after another are so many more.
 

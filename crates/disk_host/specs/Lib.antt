@@ -5,4 +5,4 @@ pub mod Held
 -- what contracts see of the report and of the complaint of a disk
 pub mod Texts
 -- a host that shows no contents
-pub mod NoContents
+pub mod Untold

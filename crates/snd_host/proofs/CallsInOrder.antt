@@ -61,7 +61,7 @@ each_more : (file : ℕ) (xs ys : List Call) → AllByRecursion (IsWrite file) x
 each_more file [] ys first second = second
 each_more file (x ∷ xs) ys first second = (first.0, each_more file xs ys first.1 second)
 
-bytes_more : (xs ys : List Call) → bytes_written (xs ++ ys) ≡ bytes_written xs ++ bytes_written ys
+pub bytes_more : (xs ys : List Call) → bytes_written (xs ++ ys) ≡ bytes_written xs ++ bytes_written ys
 bytes_more [] ys = refl
 bytes_more (wrote f bytes ∷ xs) ys = ap (λ (l : List ℕ). bytes ++ l) (bytes_more xs ys) ∙ sym (append_assoc bytes (bytes_written xs) (bytes_written ys))
 bytes_more (opened name n ∷ xs) ys = bytes_more xs ys

@@ -1,5 +1,6 @@
 // A decoding, a rip, cuts and a session over real files, whose bytes are known, and a render over them, beside the same over a host in memory.
 ghost use Rattle.std.specs.Prelude.{◌≡◌, [], IfOk};
+ghost use Rattle.snd_host.specs.History.{ended_of};
 ghost use Rattle.snd_host.specs.Memory.{memory_state};
 
 use crate::run::run;
@@ -183,7 +184,7 @@ fn remove_all(files: &HostRuntime, names: &Names) -> Result<(), Fail> {
 
 /// A host in memory that has the same inputs, and room for both outputs.
 fn host_like(alloc: Global, names: &Names, held: &Held) -> Result<MemHost, Fail>
-    ensures { IfOk result (λ host. (memory_state host).ended ≡ []) }
+    ensures { IfOk result (λ host. ended_of (memory_state host).calls ≡ []) }
 {
     let tune = (names.tune.clone()?, held.tune.clone()?);
     let table = (names.table.clone()?, held.table.clone()?);

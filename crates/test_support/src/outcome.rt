@@ -1,5 +1,6 @@
 // A host in memory, and what a command left on it.
 ghost use Rattle.std.specs.Prelude.{◌≡◌, [], IfOk};
+ghost use Rattle.snd_host.specs.History.{ended_of};
 ghost use Rattle.snd_host.specs.Memory.{memory_state};
 
 use command_runner::{OutOfMemory, Refusal, complain};
@@ -18,7 +19,7 @@ pub fn host_with(
     failing: &[u32],
     room: usize,
 ) -> Result<MemHost, OutOfMemory>
-    ensures { IfOk result (λ host. (memory_state host).ended ≡ []) }
+    ensures { IfOk result (λ host. ended_of (memory_state host).calls ≡ []) }
 {
     let mut files = Vec::new(alloc);
     for (name, bytes) in inputs {

@@ -1,5 +1,6 @@
 // What a host in memory does at each of its limits, and the two loops over it.
 ghost use Rattle.std.specs.Prelude.{◌≡◌, ◌<◌, [], ◌∷◌, length, true, false, Some, None, is_err, slice_get, IfOk};
+ghost use Rattle.snd_host.specs.History.{ended_of};
 ghost use Rattle.snd_host.specs.Memory.{memory_state, calls_of, failing_of};
 
 use snd_host::{DripHost, Failed, Host, MemHost, OutFile, ReadRefusal, read_whole, write_all};
@@ -14,7 +15,7 @@ const FIRST: OutFile = OutFile(2);
 
 /// A host with the input `IN` of five bytes and a second entry of that name.
 fn five_bytes(alloc: Global, failing: &[u32], rooms: &[usize]) -> Result<MemHost, Fail>
-    ensures ended { IfOk result (λ host. (memory_state host).ended ≡ []) }
+    ensures ended { IfOk result (λ host. ended_of (memory_state host).calls ≡ []) }
     ensures calls { IfOk result (λ host. calls_of host ≡ 0) }
     ensures failing { IfOk result (λ host. failing_of host ≡ failing.now) }
 {
@@ -55,7 +56,7 @@ fn an_input_is_read_up_to_its_limit(rt: HostRuntime) -> Result<(), Fail> {
 
 /// Writes twice to the report and twice to the complaint.
 fn write_notes(host: &mut MemHost) -> [Result<(), Failed>; 4]
-    ensures { (memory_state host.new).ended ≡ (memory_state host.old).ended }
+    ensures { ended_of (memory_state host.new).calls ≡ ended_of (memory_state host.old).calls }
 {
     [
         write_all(host, REPORT, b"abc"),
@@ -67,8 +68,8 @@ fn write_notes(host: &mut MemHost) -> [Result<(), Failed>; 4]
 
 /// Writes to the first output, and ends it.
 fn write_and_end(host: &mut MemHost, bytes: &[u8]) -> [Result<(), Failed>; 2]
-    requires { slice_get (memory_state host.old).ended 0 ≡ Some false }
-    ensures { length (memory_state host.new).ended ≡ length (memory_state host.old).ended }
+    requires { slice_get (ended_of (memory_state host.old).calls) 0 ≡ Some false }
+    ensures { length (ended_of (memory_state host.new).calls) ≡ length (ended_of (memory_state host.old).calls) }
 {
     [write_all(host, FIRST, bytes), host.finish(FIRST)]
 }
