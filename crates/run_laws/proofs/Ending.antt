@@ -135,7 +135,7 @@ no_cut_of_no_inputs given taken cut = none cut.done cut.call cut.rest cut.whole.
     none [] y ys is = cc
     none (x ∷ xs) y ys is = cc
 
-answer_accepted : {C : Type 0} (order : Order) (n : ℕ) (a : Answer C) (made : List Call) → DeliversAnswer order n a made → None ≡ refusal_of a
+pub answer_accepted : {C : Type 0} (order : Order) (n : ℕ) (a : Answer C) (made : List Call) → DeliversAnswer order n a made → None ≡ refusal_of a
 answer_accepted order n (done outputs report) made does = refl
 answer_accepted order n (refused why) made does = absurd does
 

@@ -5,12 +5,13 @@ use Rattle.std.specs.Prelude.{IsSome}
 use Rattle.snd_host.specs.Calls.{Call, opened}
 use Rattle.snd_host.specs.Host.{Files}
 use Rattle.snd_host.specs.Follows.{pushed, IsCut}
+use Rattle.snd_host.specs.Takes.{GaveFront}
 use Rattle.command_runner.specs.Answer.{Answer}
 use Rattle.command_runner.specs.NamedInputs.{NamedInput, Held, held_by, held_of, TakesInOrder}
 use Rattle.run_laws.specs.GoesBy.{GoesBy, GoesByFirst}
 use Rattle.snd_host.specs.History.{AreTrueOf}
 use Rattle.run_laws.proofs.Cuts.{not_empty}
-use Rattle.run_laws.proofs.Held.{AreTrueOf-append, GaveFront, gave_front}
+use Rattle.snd_host.proofs.Held.{AreTrueOf-append, gave_front}
 
 pub opened_is_there : (files : Files) (history before after : List Call) (name : List ℕ) (file : ℕ) → AreTrueOf files history (before ++ opened name file ∷ after) → IsSome (files name)
 opened_is_there files history before after name file all = (AreTrueOf-append files history before (opened name file ∷ after) all).1.0

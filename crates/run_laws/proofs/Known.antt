@@ -24,7 +24,7 @@ use Rattle.run_laws.specs.Left.{LeavesNothing, LeavesAll, LeavesPart, ReportsLas
 use Rattle.run_laws.specs.Run.{IsRun, answered}
 use Rattle.run_laws.proofs.Given.{answer-given}
 use Rattle.run_laws.proofs.GoesByInputs.{goes_by}
-use Rattle.run_laws.proofs.Held.{AreTrueOf-append}
+use Rattle.snd_host.proofs.Held.{AreTrueOf-append}
 use Rattle.run_laws.proofs.OfRuns.{of_run}
 use Rattle.run_laws.proofs.Runs.{complains, completes, line_is, read_fault_counts, refused_leaves_nothing, report_last, settled_leaves_all, truthful, write_fault_accepted, write_fault_leaves_part}
 

@@ -7,11 +7,13 @@ pub mod Ending
 pub mod Fitting
 pub mod Given
 pub mod GoesByInputs
-pub mod Held
+pub mod GoesOnByInputs
 pub mod Known
 pub mod Making
 pub mod OfRuns
 pub mod Parting
+pub mod Reached
+pub mod ReadRuns
 pub mod Rendering
 pub mod Rooms
 pub mod RoomsKept

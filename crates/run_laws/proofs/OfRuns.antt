@@ -1,8 +1,9 @@
 -- A run by its command is a run by what the command answers.
-use Rattle.std.proofs.Common.{◌≡◌, ◌≢◌, length, Option, Some, sym, ap, ◌∙◌}
+use Rattle.std.proofs.Common.{◌≡◌, ◌≢◌, ◌+◌, length, Option, Some, sym, ap, ◌∙◌, subst}
 use Rattle.std.specs.Prelude.{◌↔◌}
 use Rattle.snd_host.specs.History.{ended_of}
 use Rattle.snd_host.specs.Host.{HostState}
+use Rattle.command_runner.specs.RunCalls.{EndsBy}
 use Rattle.command_runner.specs.declared.refusals.Refusal.{Refusal}
 use Rattle.command_runner.specs.declared.refusals.Refusal.TheVariants.{Usage, OutOfMemory}
 use Rattle.exit_status.specs.declared.cause.Cause.{Cause}
@@ -28,6 +29,12 @@ module _ (command : Command) (old new : HostState) (status : Status) (run : IsRu
     ends = run.ends;
     complaint = run.complaint;
   }
+
+  -- the calls where the status has no numbers
+  pub ends_as : (p : Option (Refusal Cause)) (s : Status) → end_without_numbers s ≡ Some p → status ≡ s → EndsBy (order_of command) (answer_by command) (inputs_of command) p (length (ended_of old.calls) + 2) run.given run.taken run.made
+  ends_as p s plain is =
+      subst (λ (r : Option (Refusal Cause)). EndsBy (order_of command) (answer_by command) (inputs_of command) r (length (ended_of old.calls) + 2) run.given run.taken run.made)
+      (plain_is run.refusal p (ap end_without_numbers (sym run.status_is ∙ is) ∙ plain)) run.ends
 
   pub no_memory_is_no_usage : status ≡ statuses.OutOfMemory → command ≢ usage
   no_memory_is_no_usage same words = other run.refusal (plain_is run.refusal (Some OutOfMemory) (ap end_without_numbers (sym run.status_is ∙ same))) (run.misread.1 words)

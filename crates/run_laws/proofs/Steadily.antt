@@ -18,7 +18,7 @@ use Rattle.run_laws.specs.GoesBy.{GoesBy, GoesByFirst}
 use Rattle.snd_host.specs.History.{AreTrueOf, AreSteadyCalls, IsSteadyCall, rooms_after, rooms_over}
 use Rattle.run_laws.proofs.Cuts.{IsInEither, in_either}
 use Rattle.command_runner.proofs.EachCall.{one_of}
-use Rattle.run_laws.proofs.Held.{AreTrueOf-append, gave_front}
+use Rattle.snd_host.proofs.Held.{AreTrueOf-append, gave_front}
 use Rattle.run_laws.proofs.Given.{answer-front, no_cut}
 
 pub AreSteadyCalls-append : (holds : Option Files) (rooms : List ℕ) (history xs ys : List Call) → AreSteadyCalls holds rooms history (xs ++ ys) →

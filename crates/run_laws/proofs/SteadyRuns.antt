@@ -1,6 +1,6 @@
 -- A run on a steady host: of its calls for inputs only an opening fails, where there is no such input, and of those for outputs, report and complaint
 -- none, where there is room for all that they are given.
-use Rattle.std.proofs.Common.{◌≡◌, ◌≢◌, ◌⊎◌, inl, inr, ℕ, ◌+◌, ◌≤◌, List, [], ◌++◌, length, Option, Some, None, refl, sym, ap, ◌∙◌, subst, arith}
+use Rattle.std.proofs.Common.{◌≡◌, ◌≢◌, ◌⊎◌, inl, inr, ℕ, ◌+◌, ◌≤◌, List, [], ◌++◌, length, Option, Some, None, refl, sym, ap, ◌∙◌, subst, arith, rules}
 use Rattle.std.specs.Prelude.{slice_index, IsSome, unwrap_or}
 use Rattle.snd_host.specs.Calls.{Call}
 use Rattle.snd_host.specs.Follows.{pushed, IsCut, AreWrites}
@@ -23,9 +23,8 @@ use Rattle.run_laws.specs.Run.{IsRun, answered}
 use Rattle.run_laws.proofs.Delivering.{line_not_cut}
 use Rattle.run_laws.proofs.DeliveryEnds.{no_write_fault}
 use Rattle.run_laws.proofs.GoesByInputs.{goes_by}
-use Rattle.run_laws.proofs.Held.{is_there}
 use Rattle.run_laws.proofs.Known.{answer_known, line_known, true_of_taken, truthful_known}
-use Rattle.run_laws.proofs.OfRuns.{of_run}
+use Rattle.run_laws.proofs.OfRuns.{ends_as, of_run}
 use Rattle.run_laws.proofs.RoomsKept.{complaint_room_kept}
 use Rattle.run_laws.proofs.Runs.{notes_kept, unread, unwritten}
 use Rattle.run_laws.proofs.Steadily.{AreSteadyCalls-append, answer-cut}
@@ -34,12 +33,6 @@ module _ (command : Command) (old new : HostState) (status : Status) (run : IsRu
   -- the calls before the complaint, and those for it
   parts : AreSteadyCalls old.holds rooms old.calls (run.taken ++ run.made) × AreSteadyCalls old.holds (rooms_over (run.taken ++ run.made) rooms) (pushed (run.taken ++ run.made) old.calls) run.note
   parts = AreSteadyCalls-append old.holds rooms old.calls (run.taken ++ run.made) run.note (run.since.steady rooms steady).0
-
-  -- the end of a status without numbers
-  ends_as : (p : Option (Refusal Cause)) (s : Status) → end_without_numbers s ≡ Some p → status ≡ s → EndsBy (order_of command) (answer_by command) (inputs_of command) p (length (ended_of old.calls) + 2) run.given run.taken run.made
-  ends_as p s plain is =
-      subst (λ (r : Option (Refusal Cause)). EndsBy (order_of command) (answer_by command) (inputs_of command) r (length (ended_of old.calls) + 2) run.given run.taken run.made)
-      (plain_is run.refusal p (ap end_without_numbers (sym run.status_is ∙ is) ∙ plain)) run.ends
 
   -- The complaint.
 
@@ -65,7 +58,7 @@ module _ (command : Command) (old new : HostState) (status : Status) (run : IsRu
     pub input_absent : status ≡ statuses.ReadFault → answer_of command files ≡ refused ReadFault
     input_absent read =
         let taken_steady = (AreSteadyCalls-append old.holds rooms old.calls run.taken run.made parts.0).0 in
-        answer-cut files (inputs_of command) (answer_by command) run.given rooms run.taken old.calls (goes_by command) (ends_as (Some ReadFault) statuses.ReadFault refl read).0
+        answer-cut files (inputs_of command) (answer_by command) run.given rooms run.taken old.calls (goes_by command) (ends_as command old new status run (Some ReadFault) statuses.ReadFault refl read).0
         (true_of_taken command old new status run files known) (subst (λ (holds : Option Files). AreSteadyCalls holds rooms old.calls run.taken) known taken_steady)
 
     pub inputs_complete : (status ≡ answer_status (answer_of command files)) ⊎ ((status ≡ statuses.WriteFault) ⊎ (status ≡ statuses.OutOfMemory))
@@ -89,7 +82,7 @@ module _ (command : Command) (old new : HostState) (status : Status) (run : IsRu
           no_write_fault old.holds (order_of command) (answer_by command) (inputs_of command) (length (ended_of old.calls) + 2) run.given run.taken run.made rooms old.calls
           (subst (λ (a : Answer Cause). HaveRooms (outputs_of a) rooms (length (ended_of old.calls) + 2)) (sym same) have)
           (subst (λ (a : Answer Cause). length (report_of a) ≤ slice_index rooms 0) (sym same) fits)
-          refl (ends_as (Some WriteFault) statuses.WriteFault refl write) parts.0
+          refl (ends_as command old new status run (Some WriteFault) statuses.WriteFault refl write) parts.0
 
       pub outputs_complete : (status ≡ answer_status (answer_of command files)) ⊎ (status ≡ statuses.OutOfMemory)
       outputs_complete = by inputs_complete
@@ -104,4 +97,4 @@ module _ (command : Command) (old new : HostState) (status : Status) (run : IsRu
 
 -- the rooms of a host that is steady
 pub steady_rooms : (steady : Option (List ℕ)) → IsSome steady → steady ≡ Some (unwrap_or steady [])
-steady_rooms = is_there
+steady_rooms steady is = search rules

@@ -142,3 +142,9 @@ pub fn no_other_status_counts_an_output()
     ensures { (command : Command) (old new : HostState) (status : Status) (run : IsRun command old new status) →
         status ≢ statuses.WriteFault → out_faults new.calls ≡ out_faults old.calls }
 {}
+
+/// A run that was to write outputs read all inputs that its words name.
+pub fn a_run_that_writes_has_read_all_inputs()
+    ensures { (command : Command) (old new : HostState) (status : Status) (run : IsRun command old new status) →
+        (status ≡ statuses.Ok) ⊎ (status ≡ statuses.WriteFault) → length run.given ≡ length (inputs_of command) }
+{}

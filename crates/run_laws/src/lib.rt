@@ -12,7 +12,7 @@ pub use laws::{
     a_run_that_could_not_read_names_an_input, a_run_that_could_not_write_leaves_a_part,
     a_run_that_could_not_write_was_not_refused, a_run_that_ends_as_answered_leaves_all,
     a_run_that_ends_well_counts_no_fault, a_run_that_was_refused_leaves_nothing,
-    a_run_without_faults_ends_as_answered, a_run_without_memory_leaves_nothing,
+    a_run_that_writes_has_read_all_inputs, a_run_without_faults_ends_as_answered, a_run_without_memory_leaves_nothing,
     a_status_is_truthful, an_input_that_fails_is_counted_once,
     an_output_that_fails_is_counted_once, no_other_status_counts_an_input,
     no_other_status_counts_an_output, words_that_say_no_command_are_refused,
