@@ -29,5 +29,5 @@ pub returns-clause-report : goal.returns-clause-report
 returns-clause-report g c =
     let server = c.args.server in
     let pages = pages_at g.C.Chip.meaning g.C.Chip.saving server in
-    rw (c.new-run.ensures, c.in_ok-report.ensures)
+    rw (c.new-run.ensures, c.in_ok-report.ensures.items)
     (ap (λ (b : CutBook). report_on (replies (slots_of server) pages (record { book = after_play b 0; frames = 0 }) c.args.script)) c.requires.opened)
