@@ -3,7 +3,7 @@ use Rattle.std.proofs.Common.{◌≡◌, ◌≢◌, ℕ, zero, suc, ◌+◌, ◌
 use Rattle.std.specs.Prelude.{slice_get}
 use Rattle.std.specs.List.{AllByRecursion}
 use Rattle.std.proofs.lemmas.List.{length-set}
-use Rattle.snd_host.specs.Calls.{Call, created, finished}
+use Rattle.snd_host.specs.Calls.{Call, created, finished, finish_call}
 use Rattle.snd_host.specs.History.{ended_of}
 use Rattle.snd_host.specs.Host.{HostState, Output, IsOpen}
 use Rattle.snd_host.specs.Follows.{pushed, failure_of, Makes, Since, Follows, AreWrites}
