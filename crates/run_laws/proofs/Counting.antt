@@ -5,7 +5,7 @@ use Rattle.std.proofs.Common.{◌≡◌, ◌≢◌, ◌⊎◌, inl, inr, ℕ, ze
 use Rattle.std.specs.List.{AllByRecursion}
 use Rattle.std.proofs.lemmas.List.{append_assoc, append-nil}
 use Rattle.snd_host.specs.Calls.{Call, wrote}
-use Rattle.snd_host.specs.Host.{Output, IsPrefix, next_count}
+use Rattle.snd_host.specs.Host.{Output, next_count}
 use Rattle.snd_host.specs.Follows.{pushed, failure_of, IsCut, IsBegun, IsWrite, AreWrites, bytes_written}
 use Rattle.snd_host.proofs.CallsInOrder.{pushed_more, bytes_more}
 use Rattle.command_runner.specs.Answer.{Answer}
@@ -149,13 +149,6 @@ module _ (line : List ℕ) where
   pub note_cut_left : (note history : List Call) → IsCut (AreWrites 1 line) note → standing (pushed note history) ≡ standing history
   note_cut_left = kept_cut standing (AreWrites 1 line) (each_written 1 line (Keeps standing) (λ piece some history. refl)) (each_written 1 line (λ call. Keeps standing (failure_of call)) (λ piece some history. refl))
 
--- Writes that were cut wrote a prefix,
-pub cut_prefix : (file : ℕ) (bytes : List ℕ) (calls : List Call) (cut : IsCut (AreWrites file bytes) calls) → IsPrefix (bytes_written cut.done) bytes
-cut_prefix file bytes calls cut = record {
-  rest = bytes_written (cut.call ∷ cut.rest);
-  split = sym (bytes_more cut.done (cut.call ∷ cut.rest)) ∙ cut.whole.joined;
-}
-
 nothing_joined : (xs ys : List ℕ) → xs ≢ [] → xs ++ ys ≡ [] → ⊥
 nothing_joined [] ys some none = some refl
 nothing_joined (x ∷ xs) ys some none = absurd (cc)
@@ -164,7 +157,7 @@ no_bytes_after : (xs ys : List ℕ) → xs ++ ys ≡ [] → ys ≡ []
 no_bytes_after [] ys none = none
 no_bytes_after (x ∷ xs) ys none = absurd (cc)
 
--- and there is something to write.
+-- Where writes are cut, there is something to write.
 pub no_cut_of_none : (file : ℕ) (calls : List Call) → IsCut (AreWrites file []) calls → ⊥
 no_cut_of_none file calls cut =
     let one = one_of (IsWrite file) cut.done cut.rest cut.call cut.whole.each in

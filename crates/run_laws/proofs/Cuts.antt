@@ -1,5 +1,8 @@
 -- A run that was cut is the front of a whole one: where it was cut is in the first thing or in the second.
-use Rattle.std.proofs.Common.{◌≡◌, ◌⊎◌, inl, inr, List, [], ◌∷◌, ◌++◌, refl, sym, ap, ◌∙◌}
+use Rattle.std.proofs.Common.{◌≡◌, ◌⊎◌, inl, inr, ℕ, List, [], ◌∷◌, ◌++◌, refl, sym, ap, ◌∙◌}
+use Rattle.snd_host.specs.Calls.{Call}
+use Rattle.snd_host.specs.Follows.{IsCut}
+use Rattle.command_runner.specs.NamedInputs.{TakesInOrder}
 
 -- Of lists that were put together the second time at this element: it is one of the first, or of the second.
 abbrev pub IsInFirst : {A : Type 0} → (done : List A) (x : A) (front : List A) → Type 0
@@ -24,6 +27,10 @@ in_either (d ∷ done) x rest (f ∷ front) back is =
     let others : done ++ x ∷ rest ≡ front ++ back = cc in
     one_more d f x done rest front back same (in_either done x rest front back others)
 
-pub not_empty : {A : Type 0} (xs : List A) (y : A) (ys : List A) → xs ++ y ∷ ys ≡ [] → ⊥
+not_empty : {A : Type 0} (xs : List A) (y : A) (ys : List A) → xs ++ y ∷ ys ≡ [] → ⊥
 not_empty [] y ys none = absurd (cc)
 not_empty (x ∷ xs) y ys none = absurd (cc)
+
+-- Without inputs there is no call for one to fail.
+pub no_cut : (given : List (List ℕ)) (taken : List Call) → IsCut (TakesInOrder [] given) taken → ⊥
+no_cut given taken cut = not_empty cut.done cut.call cut.rest cut.whole.1

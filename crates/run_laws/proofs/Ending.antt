@@ -18,6 +18,7 @@ use Rattle.command_runner.specs.declared.refusals.Refusal.TheVariants.{Usage, Re
 use Rattle.snd_host.specs.History.{ended_of}
 use Rattle.exit_status.proofs.Ends.{IsEnd}
 use Rattle.run_laws.proofs.Counting.{Counts, counts_of, Standing, standing, input_failed, output_failed, taken_counts, taken_left, taken_cut_counts, taken_cut_left, taken_begun_counts, taken_begun_left, made_counts, made_cut_counts, made_cut_left}
+use Rattle.run_laws.proofs.Cuts.{no_cut}
 use Rattle.run_laws.proofs.Making.{grown, grown_none}
 use Rattle.run_laws.proofs.Parting.{delivers_all, delivers_part}
 
@@ -128,13 +129,6 @@ part_stands order n (refused why) made history high number cut = absurd cut.whol
 made_none : {A : Type 0} (f : List Call → A) (taken made history : List Call) → made ≡ [] → f (pushed (taken ++ made) history) ≡ f (pushed taken history)
 made_none f taken made history none = ap (λ (l : List Call). f (pushed (taken ++ l) history)) none ∙ ap (λ (l : List Call). f (pushed l history)) (append-nil taken)
 
-no_cut_of_no_inputs : (given : List (List ℕ)) (taken : List Call) → IsCut (TakesInOrder [] given) taken → ⊥
-no_cut_of_no_inputs given taken cut = none cut.done cut.call cut.rest cut.whole.1
-  where
-    none : (xs : List Call) (y : Call) (ys : List Call) → xs ++ y ∷ ys ≡ [] → ⊥
-    none [] y ys is = cc
-    none (x ∷ xs) y ys is = cc
-
 pub answer_accepted : {C : Type 0} (order : Order) (n : ℕ) (a : Answer C) (made : List Call) → DeliversAnswer order n a made → None ≡ refusal_of a
 answer_accepted order n (done outputs report) made does = refl
 answer_accepted order n (refused why) made does = absurd does
@@ -153,7 +147,7 @@ module _ {C : Type 0} (order : Order) (answer : Held → Answer C) (inputs : Lis
   cut_accepted r is ends = sym (answer_accepted order n (answer (held_of given)) _ (subst (λ (r : Option (Refusal C)). EndsBy order answer inputs r n given taken made) is ends).1.whole)
 
   pub names_input : (inputs : List NamedInput) → IsCut (TakesInOrder inputs given) taken → IsTrue (are_some inputs)
-  names_input [] cut = absurd (no_cut_of_no_inputs given taken cut)
+  names_input [] cut = absurd (no_cut given taken cut)
   names_input (input ∷ inputs) cut = refl
 
   pub end_counts : (r : Option (Refusal C)) → 2 ≤ n → EndsBy order answer inputs r n given taken made → counts_of (pushed (taken ++ made) history) ≡ faulted r (counts_of history)

@@ -1,20 +1,15 @@
 -- What is answered by what the inputs gave is what is answered by what their names hold: each input gave the front of what its name holds, up to its
 -- limit and one byte, and the answer goes by no more of it.
 use Rattle.std.proofs.Common.{◌≡◌, ℕ, Bool, true, false, List, [], ◌∷◌, ◌++◌, Some, refl, sym, ap, ◌∙◌, subst, if◌then◌else◌}
-use Rattle.std.specs.Prelude.{IsSome}
-use Rattle.snd_host.specs.Calls.{Call, opened}
+use Rattle.snd_host.specs.Calls.{Call}
 use Rattle.snd_host.specs.Host.{Files}
-use Rattle.snd_host.specs.Follows.{pushed, IsCut}
+use Rattle.snd_host.specs.Follows.{pushed}
 use Rattle.snd_host.specs.Takes.{GaveFront}
 use Rattle.command_runner.specs.Answer.{Answer}
 use Rattle.command_runner.specs.NamedInputs.{NamedInput, Held, held_by, held_of, TakesInOrder}
 use Rattle.run_laws.specs.GoesBy.{GoesBy, GoesByFirst}
 use Rattle.snd_host.specs.History.{AreTrueOf}
-use Rattle.run_laws.proofs.Cuts.{not_empty}
 use Rattle.snd_host.proofs.Held.{AreTrueOf-append, gave_front}
-
-pub opened_is_there : (files : Files) (history before after : List Call) (name : List ℕ) (file : ℕ) → AreTrueOf files history (before ++ opened name file ∷ after) → IsSome (files name)
-opened_is_there files history before after name file all = (AreTrueOf-append files history before (opened name file ∷ after) all).1.0
 
 -- an input that gave its front may stand for what its name holds
 pub answer-front : {C : Type 0} (files : Files) (input : NamedInput) (answer : Held → Answer C) (bytes : List ℕ) (rest : Held) → GoesByFirst input answer → GaveFront files input.name input.limit bytes →
@@ -39,6 +34,3 @@ answer-given {C = C} files (input ∷ inputs) answer (bytes ∷ given) taken his
     (λ is more. answer-given files inputs (λ l. answer (Some bytes ∷ l)) given takes.back (pushed takes.front history) (goes.1 bytes is) more parts.1)
     (input.accepts (Some bytes)) refl takes.does_second
     ∙ sym (answer-front files input answer bytes (held_by files inputs) goes.0 (gave_front files input.name input.limit bytes takes.front history takes.does_first parts.0))
-
-pub no_cut : (given : List (List ℕ)) (taken : List Call) → IsCut (TakesInOrder [] given) taken → ⊥
-no_cut given taken cut = not_empty cut.done cut.call cut.rest cut.whole.1

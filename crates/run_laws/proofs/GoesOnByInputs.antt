@@ -38,7 +38,7 @@ goes_on (cuts file table list wave muted) = (
   (λ bytes rest failed. refused_here (file_in (Some bytes)) (cuts_file_answer wave muted (first rest) (second rest)) failed),
   λ bytes is. (
     (λ weights rest failed. refused_later (file_in (Some bytes)) (cuts_file_answer wave muted (Some weights) (first rest))
-    (λ spc. refused_here (table_in (Some weights)) (cuts_table_answer wave muted (first rest) spc) failed)),
+        (λ spc. refused_here (table_in (Some weights)) (cuts_table_answer wave muted (first rest) spc) failed)),
     λ weights is. tt,
   ),
 )
@@ -46,7 +46,7 @@ goes_on (serve file table script wave options) = (
   (λ bytes rest failed. refused_here (file_in (Some bytes)) (serve_file_answer wave options (first rest) (second rest)) failed),
   λ bytes is. (
     (λ weights rest failed. refused_later (file_in (Some bytes)) (serve_file_answer wave options (Some weights) (first rest))
-    (λ spc. refused_here (table_in (Some weights)) (serve_table_answer wave options (first rest) spc) failed)),
+        (λ spc. refused_here (table_in (Some weights)) (serve_table_answer wave options (first rest) spc) failed)),
     λ weights is. tt,
   ),
 )

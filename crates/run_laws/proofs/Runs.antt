@@ -1,12 +1,12 @@
 -- Laws of a run, from the list of its calls. The calls for inputs, outputs and the report come to what the end says, and those for the complaint
 -- leave all of it but the complaint and its count.
-use Rattle.std.proofs.Common.{◌≡◌, ◌≢◌, ◌⊎◌, inl, inr, ℕ, ◌+◌, ◌≤◌, Bool, List, [], ◌++◌, length, Option, Some, None, refl, sym, ◌∙◌, ap, subst, arith}
+use Rattle.std.proofs.Common.{◌≡◌, ◌≢◌, ◌⊎◌, inl, inr, ℕ, ◌+◌, ◌≤◌, Bool, List, [], ◌∷◌, ◌++◌, length, Option, Some, None, refl, sym, ◌∙◌, ap, subst, arith}
 use Rattle.std.specs.Prelude.{unwrap_or, IsTrue}
 use Rattle.std.proofs.lemmas.List.{append-nil}
 use Rattle.snd_host.specs.Calls.{Call}
 use Rattle.snd_host.specs.Host.{Output, IsPrefix, next_count, Rose}
 use Rattle.snd_host.specs.Follows.{pushed, bytes_written, IsCut, AreWrites}
-use Rattle.snd_host.proofs.CallsInOrder.{pushed_more}
+use Rattle.snd_host.proofs.CallsInOrder.{pushed_more, bytes_more}
 use Rattle.snd_host.proofs.Writes.{rose}
 use Rattle.command_runner.specs.Answer.{Answer, refusal_of, outputs_of}
 use Rattle.command_runner.specs.Delivery.{all_ended}
@@ -23,7 +23,7 @@ use Rattle.exit_status.specs.Lines.{end_line, status_line}
 use Rattle.snd_host.specs.History.{given_of, ended_of, in_faults, note_faults, out_faults}
 use Rattle.run_laws.specs.Left.{Leaves, LeavesNothing, LeavesAll, LeavesPart, ReportsLast, Complains, KeepsCounts, NoneRose}
 use Rattle.exit_status.proofs.Ends.{IsEnd, plain_is, line_end, same_end}
-use Rattle.run_laws.proofs.Counting.{Counts, counts_of, Standing, standing, note_counts, note_left, note_cut_counts, note_cut_left, cut_prefix, no_cut_of_none}
+use Rattle.run_laws.proofs.Counting.{Counts, counts_of, Standing, standing, note_counts, note_left, note_cut_counts, note_cut_left, no_cut_of_none}
 use Rattle.run_laws.proofs.Making.{grown, grown_none}
 use Rattle.run_laws.proofs.Ending.{Stands, faulted, faulted_note, faulted_inputs, faulted_outputs, is_end, names_input, end_counts, end_stands, end_leaves_nothing, cut_accepted}
 
@@ -74,7 +74,7 @@ noted_counts line note history (inr cut) =
       inputs = refl;
       outputs = refl;
       grew = refl;
-      part = cut_prefix 1 line note cut;
+      part = record { rest = bytes_written (cut.call ∷ cut.rest); split = sym (bytes_more cut.done (cut.call ∷ cut.rest)) ∙ cut.whole.joined };
       all = λ not_risen. absurd (not_risen (rose (note_faults history) _ refl));
       once = inr refl;
       none = λ empty. absurd (no_cut_of_none 1 note (subst (λ (l : List ℕ). IsCut (AreWrites 1 l) note) empty cut));

@@ -16,10 +16,10 @@ use Rattle.command_runner.specs.declared.refusals.Refusal.TheVariants.{ReadFault
 use Rattle.command_runner.proofs.Woven.{each_as, each_then}
 use Rattle.run_laws.specs.GoesBy.{GoesBy, GoesByFirst}
 use Rattle.snd_host.specs.History.{AreTrueOf, AreSteadyCalls, IsSteadyCall, rooms_after, rooms_over}
-use Rattle.run_laws.proofs.Cuts.{IsInEither, in_either}
+use Rattle.run_laws.proofs.Cuts.{IsInEither, in_either, no_cut}
 use Rattle.command_runner.proofs.EachCall.{one_of}
 use Rattle.snd_host.proofs.Held.{AreTrueOf-append, gave_front}
-use Rattle.run_laws.proofs.Given.{answer-front, no_cut}
+use Rattle.run_laws.proofs.Given.{answer-front}
 
 pub AreSteadyCalls-append : (holds : Option Files) (rooms : List ℕ) (history xs ys : List Call) → AreSteadyCalls holds rooms history (xs ++ ys) →
     AreSteadyCalls holds rooms history xs × AreSteadyCalls holds (rooms_over xs rooms) (pushed xs history) ys
