@@ -1,10 +1,9 @@
 -- The outputs of a host by their numbers: 0 is the report, 1 the complaint, and the place of a created one is 2 less.
-use Rattle.std.proofs.Common.{◌≡◌, ◌≢◌, ◌+◌, ◌-◌, ◌≤◌, ◌<◌, ℕ, zero, suc, Bool, false, true, List, [], ◌∷◌, ◌++◌, length, Option, Some, None, Result, Ok, Err, is_ok, ◌==◌, slice_get, refl, sym, ◌∙◌, ap, subst, arith}
+use Rattle.std.proofs.Common.{◌≡◌, ◌≢◌, ◌+◌, ◌-◌, ◌≤◌, ◌<◌, ℕ, zero, suc, Bool, false, true, List, [], ◌∷◌, ◌++◌, length, Option, Some, None, Result, ◌==◌, slice_get, refl, sym, ◌∙◌, ap, subst, arith}
 use Rattle.std.proofs.lemmas.List.{length-map}
 use Rattle.std.proofs.lemmas.Bool.Decides.{nat_tests}
 use Rattle.std.specs.Io.KnownBytes.{Keeps, WriteAppends}
 use Rattle.snd_host.specs.Host.{IsOpen}
-use Rattle.snd_host.specs.Calls.{finish_call, finished, not_finished}
 use Rattle.disk_host.specs.Texts.{Texts}
 use Rattle.disk_host.specs.Created.{max_created, is_ended, flags_of, known_or, known_at, known_of}
 use Rattle.disk_host.specs.Held.{Tells}

@@ -5,7 +5,7 @@ use Rattle.std.specs.Io.KnownBytes.{Keeps, ReadConsumes, WriteAppends}
 use Rattle.snd_host.specs.Host.{HostState}
 use Rattle.snd_host.specs.Calls.{Call}
 use Rattle.disk_host.specs.Texts.{Texts}
-use Rattle.disk_host.specs.Created.{flags_of, known_or, known_of}
+use Rattle.disk_host.specs.Created.{known_or, known_of}
 use Rattle.disk_host.specs.declared.host.DiskHost.{DiskHost}
 
 -- the host at a moment: the calls that were made of it; it shows no bytes and no rooms

@@ -1,4 +1,4 @@
-use Rattle.std.proofs.Common.{rules, ℕ, ◌∷◌, refl, sym, ap, ◌∙◌, Bool, List, subst, arith}
+use Rattle.std.proofs.Common.{ℕ, ◌∷◌, refl, sym, ap, ◌∙◌, Bool, List, subst, arith}
 use Rattle.snd_host.specs.Calls.{write_call}
 use Rattle.snd_host.specs.Host.{IsOpen}
 use Rattle.snd_host.specs.declared.host.Failed.{Failed}
@@ -8,7 +8,7 @@ use Rattle.disk_host.proofs.host.DiskHostHost.write.Goals as goal
 
 pub write_output-requires : goal.write_output-requires
 write_output-requires g c = (
-  search rules,
+  omega arith,
   (
     omega (arith, c.if-file-eq0.false, c.if-file-eq1.false),
     open_place (flags_of c.args.self.now.kept.created.items) c.args.file.0 (subst (λ (l : List Bool). IsOpen l c.args.file.0) c.args.self.now.kept.ended_is c.requires) c.if-file-eq0.false c.if-file-eq1.false,
