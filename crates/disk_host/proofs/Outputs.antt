@@ -1,11 +1,11 @@
 -- The outputs of a host by their numbers: 0 is the report, 1 the complaint, and the place of a created one is 2 less.
-use Rattle.std.proofs.Common.{◌≡◌, ◌≢◌, ◌+◌, ◌-◌, ◌≤◌, ℕ, zero, suc, Bool, false, true, List, [], ◌∷◌, ◌++◌, length, Option, Some, None, Result, Ok, Err, is_ok, ◌==◌, slice_get, refl, sym, ◌∙◌, ap, subst, arith}
+use Rattle.std.proofs.Common.{◌≡◌, ◌≢◌, ◌+◌, ◌-◌, ◌≤◌, ◌<◌, ℕ, zero, suc, Bool, false, true, List, [], ◌∷◌, ◌++◌, length, Option, Some, None, Result, ◌==◌, slice_get, refl, sym, ◌∙◌, ap, subst, arith}
 use Rattle.std.proofs.lemmas.List.{length-map}
+use Rattle.std.proofs.lemmas.Bool.Decides.{nat_tests}
 use Rattle.std.specs.Io.KnownBytes.{Keeps, WriteAppends}
 use Rattle.snd_host.specs.Host.{IsOpen}
-use Rattle.snd_host.specs.Calls.{finish_call, finished, not_finished}
 use Rattle.disk_host.specs.Texts.{Texts}
-use Rattle.disk_host.specs.Created.{max_created, is_ended, flags_of, known_at, known_of}
+use Rattle.disk_host.specs.Created.{max_created, is_ended, flags_of, known_or, known_at, known_of}
 use Rattle.disk_host.specs.Held.{Tells}
 use Rattle.disk_host.specs.declared.host.Created.{Created}
 use Rattle.disk_host.proofs.Places.{told_last, told_before, keeps_before}
@@ -108,10 +108,27 @@ not_full places full few is not_yet most =
     let both : true ≡ false = sym (is ∙ ap (λ (n : ℕ). n == 256) all) ∙ not_yet in
     absurd (cc)
 
-pub finish_ok : {T E : Type 0} (file : ℕ) (result : Result T E) → is_ok result ≡ true → finish_call file result ≡ finished file
-finish_ok file (Ok x) is = refl
-finish_ok file (Err e) is = absurd (cc)
+-- a list of places that isn't full has one more
+pub room_left : (n : ℕ) (full : Bool) → n ≤ 256 → full ≡ (n == 256) → full ≡ false → n < max_created
+room_left n full few is not_yet = grind (arith, nat_tests)
 
-pub finish_err : {T E : Type 0} (file : ℕ) (result : Result T E) → is_ok result ≡ false → finish_call file result ≡ not_finished file
-finish_err file (Ok x) is = absurd (cc)
-finish_err file (Err e) is = refl
+-- nothing changed
+pub holds_same : {F : Type 0} (files : Tells F) (before after : Texts) (old new : List (Option (Created F))) → new ≡ old → after ≡ before → (output : ℕ) → Keeps (held_in files before old output) (held_in files after new output)
+holds_same files before after old new same_places same_texts output = keeps_equal _ _ (λ i. held_in files (same_texts i) (same_places i) output)
+
+pub keeps_input : {F : Type 0} (left : Tells F) (old new : Option F) → new ≡ old → Keeps (known_or left None old) (known_or left None new)
+keeps_input left old new same = keeps_equal _ _ (ap (λ o. known_or left None o) same)
+
+pub same_outputs : {F : Type 0} (number : F → ℕ) (old new : List (Option (Created F))) → new ≡ old → (output : ℕ) → known_of number 0 0 1 new output ≡ known_of number 0 0 1 old output
+same_outputs number old new same output = λ i. known_of number 0 0 1 (same i) output
+
+-- a write that leaves the places
+pub on_places : {F X : Type 0} (files : Tells F) (before after : Texts) (piece : List ℕ) (places now : List (Option (Created F))) (result : Result ℕ X) (file : ℕ) → now ≡ places →
+    WriteAppends (held_in files before places file) (held_in files after places file) result piece × ((other : ℕ) → other ≢ file → held_in files after places other ≡ held_in files before places other) →
+    WriteAppends (held_in files before places file) (held_in files after now file) result piece × ((other : ℕ) → other ≢ file → held_in files after now other ≡ held_in files before places other)
+on_places {F} files before after piece places now result file same wrote =
+    subst (λ (l : List (Option (Created F))). WriteAppends (held_in files before places file) (held_in files after l file) result piece × ((other : ℕ) → other ≢ file → held_in files after l other ≡ held_in files before places other)) (sym same) wrote
+
+-- a number that isn't that of the complaint
+pub other_number : (n : ℕ) → n ≢ 1 → (n == 1) ≡ false
+other_number n other = grind (arith)

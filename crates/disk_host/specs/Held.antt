@@ -1,26 +1,16 @@
 -- What a host of real files is at a moment, which of its disk's files it has in hand, what it asked of its disk, and which bytes its files are known to
 -- hold. A file that doesn't know its bytes has None.
 use Rattle.std.specs.Prelude.{◌≡◌, ◌≢◌, ℕ, List, ◌∷◌, Option, None, Result, IsErr}
-use Rattle.std.specs.Option.{option_map}
 use Rattle.std.specs.Io.KnownBytes.{Keeps, ReadConsumes, WriteAppends}
-use Rattle.std.proofs.Common.{sym}
 use Rattle.snd_host.specs.Host.{HostState}
-use Rattle.snd_host.specs.History.{ended_of}
 use Rattle.snd_host.specs.Calls.{Call}
 use Rattle.disk_host.specs.Texts.{Texts}
-use Rattle.disk_host.specs.Untold.{untold_state}
-use Rattle.disk_host.specs.Created.{flags_of, known_or, known_of}
+use Rattle.disk_host.specs.Created.{known_or, known_of}
 use Rattle.disk_host.specs.declared.host.DiskHost.{DiskHost}
 
--- the host at a moment: the calls that were made of it, its current input, which created outputs have ended, its counts of faults, and whether its last
--- call failed; it shows no bytes and no rooms
+-- the host at a moment: the calls that were made of it; it shows no bytes and no rooms
 abbrev pub disk_state : {D F : Type 0} → DiskHost D F → HostState
-disk_state host =
-    untold_state host.kept.log.calls (option_map (λ _. host.newest) host.input) (flags_of host.kept.created.items) host.in_faults host.note_faults host.out_faults host.failed_last
-
--- an output was ended where its end was called
-pub disk_counted_lem : {D F : Type 0} → (host : DiskHost D F) → (disk_state host).ended ≡ ended_of (disk_state host).calls
-disk_counted_lem host = sym host.kept.ended_is
+disk_state host = record { calls = host.kept.log.calls; holds = None; steady = None }
 
 -- the disk of a host
 abbrev pub disk_of : {D F : Type 0} → DiskHost D F → D
@@ -28,7 +18,7 @@ disk_of host = host.disk
 
 -- the number of the file that is the current input; 0 where there is none
 abbrev pub input_number : {D F : Type 0} → (number : F → ℕ) → DiskHost D F → ℕ
-input_number number host = known_or number 0 host.input
+input_number number host = known_or number 0 host.kept.input
 
 -- The number of the file that is the output of a number of the host's. Report and complaint have the same number for both; where there is none, it is 0.
 abbrev pub output_number : {D F : Type 0} → (number : F → ℕ) → DiskHost D F → (output : ℕ) → ℕ
@@ -65,7 +55,7 @@ held_by files texts host number = known_of files None (texts host.disk).report (
 
 -- The bytes that were read are the next ones of the current input, and none come only at its end.
 abbrev pub ReadsOn : {D F X : Type 0} → Tells F → (buf : List ℕ) → (old new : DiskHost D F) → Result ℕ X → Type 0
-ReadsOn left buf old new result = ReadConsumes (known_or left None old.input) (known_or left None new.input) result buf
+ReadsOn left buf old new result = ReadConsumes (known_or left None old.kept.input) (known_or left None new.kept.input) result buf
 
 -- The bytes that were taken of a piece come after those that the output of a number held, and every other output holds what it held.
 pub record WritesOn {D F X : Type 0} (files : Tells F) (texts : D → Texts) (number : ℕ) (piece : List ℕ)
@@ -80,4 +70,4 @@ HoldsStay files texts old new =
 
 -- What is left of the current input stays: none of its bytes is eaten.
 abbrev pub InputStays : {D F : Type 0} → Tells F → (old new : DiskHost D F) → Type 0
-InputStays left old new = Keeps (known_or left None old.input) (known_or left None new.input)
+InputStays left old new = Keeps (known_or left None old.kept.input) (known_or left None new.kept.input)

@@ -4,5 +4,3 @@ pub mod Created
 pub mod Held
 -- what contracts see of the report and of the complaint of a disk
 pub mod Texts
--- a host that shows no contents
-pub mod Untold

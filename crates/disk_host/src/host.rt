@@ -1,10 +1,10 @@
 // The host of real files: it shows no contents, and passes on what a file knows of its bytes.
-ghost use Rattle.std.specs.Prelude.{◌≡◌, ◌≢◌, ◌<◌, ℕ, ◌≤◌, ◌∷◌, ◌++◌, ◌-◌, length, IfOk, drop, None, Some, [], false, is_ok, slice_get, slice_set};
+ghost use Rattle.std.specs.Prelude.{◌≡◌, ◌≢◌, ◌<◌, ℕ, ◌≤◌, ◌∷◌, ◌-◌, length, drop, IfOk, None, Some, [], false, is_ok, slice_get, slice_set};
+ghost use Rattle.std.specs.Option.{option_map};
 ghost use Rattle.snd_host.specs.Calls.{open_call, read_call, create_call, write_call, finish_call};
-ghost use Rattle.snd_host.specs.History.{ended_of};
-ghost use Rattle.disk_host.specs.Untold.{untold_state};
-ghost use Rattle.disk_host.specs.Created.{flags_of, known_at};
-ghost use Rattle.std.specs.Io.KnownBytes.{Keeps, WriteAppends};
+ghost use Rattle.snd_host.specs.History.{current_of, ended_of, in_faults as inputs_failed, note_faults as notes_failed, out_faults as outputs_failed};
+ghost use Rattle.disk_host.specs.Created.{flags_of, known_or, known_at};
+ghost use Rattle.std.specs.Io.KnownBytes.{Keeps, ReadConsumes, WriteAppends};
 
 use crate::Disk;
 use arrayvec::ArrayVec;
@@ -25,49 +25,52 @@ struct Created<F> {
 /// The created outputs, each at its place.
 type Places<F> = ArrayVec<Option<Created<F>>, MAX_CREATED>;
 
-/// What a host keeps of its calls: the outputs that were created, and all calls that were made.
+/// What a host keeps of its calls, and all calls that were made: the current input with its number, the outputs that were created,
+/// and how many calls on inputs, writes to the complaint and calls on outputs failed. It is what the calls come to.
 #[derive(Drop)]
 struct Kept<F> {
+    input: Option<F>,
+    newest: u32,
     created: Places<F>,
+    in_faults: u64,
+    note_faults: u64,
+    out_faults: u64,
     log: Log,
+    ghost current_is: { current_of log.calls ≡ option_map (λ _. newest) input },
     ghost ended_is: { ended_of log.calls ≡ flags_of created.items },
+    ghost in_faults_is: { inputs_failed log.calls ≡ in_faults },
+    ghost note_faults_is: { notes_failed log.calls ≡ note_faults },
+    ghost out_faults_is: { outputs_failed log.calls ≡ out_faults },
 }
 
 /// A host over a disk. It asks the disk once in each call, and fails where the disk does.
 #[derive(Drop)]
 pub struct DiskHost<D: Disk + Drop> {
     disk: D,
-    input: Option<D::File>,
-    newest: u32,
     kept: Kept<D::File>,
-    in_faults: u64,
-    note_faults: u64,
-    out_faults: u64,
-    failed_last: bool,
 }
 
 impl<D: Disk + Drop> DiskHost<D> {
     ghost use Rattle.disk_host.specs.Held.{disk_of, held_by};
 
-    /// A host without inputs, outputs or faults, which has asked the disk of nothing.
+    /// A host of which no call was made, and which has asked the disk of nothing.
     pub fn new(disk: D) -> Self
-        ensures state { ⟦<DiskHost<D> as Host>⟧.state result ≡ untold_state [] None [] 0 0 0 false }
+        ensures state { ⟦<DiskHost<D> as Host>⟧.state result ≡ record { calls = []; holds = None; steady = None } }
         ensures disk { disk_of result ≡ disk }
         ensures report { held_by D.held D.texts result 0 ≡ (D.texts disk).report }
         ensures complaint { held_by D.held D.texts result 1 ≡ (D.texts disk).complaint }
     {
         DiskHost {
             disk,
-            input: None,
-            newest: 0,
             kept: Kept {
+                input: None,
+                newest: 0,
                 created: ArrayVec::new(),
+                in_faults: 0,
+                note_faults: 0,
+                out_faults: 0,
                 log: Log::none(),
             },
-            in_faults: 0,
-            note_faults: 0,
-            out_faults: 0,
-            failed_last: false,
         }
     }
 }
@@ -138,110 +141,185 @@ fn end_created<D: Disk>(
 }
 
 impl<F: Drop> Kept<F> {
-    ghost use Rattle.std.specs.Prelude.{◌++◌, Some};
-    ghost use Rattle.snd_host.specs.Calls.{created};
+    ghost use Rattle.std.specs.Prelude.{◌++◌};
+    ghost use Rattle.snd_host.specs.Calls.{opened, not_opened, created, not_created};
     ghost use Rattle.disk_host.specs.Created.{max_created};
 
+    /// Makes a file that was opened the current input. The one before it is closed.
+    fn take_input(&mut self, name: &str, file: F) -> InFile
+        ensures calls { self.new.log.calls ≡ opened name.now result.0 ∷ self.old.log.calls }
+        ensures fresh { current_of self.old.log.calls ≢ Some result.0 }
+        ensures input { self.new.input ≡ Some file }
+        ensures created { self.new.created.items ≡ self.old.created.items }
+    {
+        self.newest = self.newest.wrapping_add(1);
+        self.input = Some(file);
+        note_open(&mut self.log, name, Ok(InFile(self.newest)));
+        InFile(self.newest)
+    }
+
+    /// No input is current, since none could be opened.
+    fn refuse_input(&mut self, name: &str)
+        ensures calls { self.new.log.calls ≡ not_opened name.now ∷ self.old.log.calls }
+        ensures input { self.new.input ≡ None }
+        ensures created { self.new.created.items ≡ self.old.created.items }
+    {
+        self.input = None;
+        note_open(&mut self.log, name, Err(Failed));
+        self.in_faults = self.in_faults.saturating_add(1);
+    }
+
     /// Adds an output that was created, with its number.
-    fn add(&mut self, name: &str, number: u32, file: F)
+    fn take_output(&mut self, name: &str, number: u32, file: F)
         requires { length self.old.created.items < max_created }
         ensures created { self.new.created.items ≡ self.old.created.items ++ Some (record { file = file; ended = false }) ∷ [] }
         ensures calls { self.new.log.calls ≡ created name.now number ∷ self.old.log.calls }
+        ensures input { self.new.input ≡ self.old.input }
     {
         self.created.push(Some(Created { file, ended: false }));
         note_create(&mut self.log, name, Ok(OutFile(number)));
     }
+
+    /// No output is added, since none could be created.
+    fn refuse_output(&mut self, name: &str)
+        ensures calls { self.new.log.calls ≡ not_created name.now ∷ self.old.log.calls }
+        ensures input { self.new.input ≡ self.old.input }
+        ensures created { self.new.created.items ≡ self.old.created.items }
+    {
+        note_create(&mut self.log, name, Err(Failed));
+        self.out_faults = self.out_faults.saturating_add(1);
+    }
+
+    /// Notes a write to the report or to the complaint, and counts it where it failed: one to the complaint among its own.
+    fn count_write(&mut self, number: u32, piece: &[u8], outcome: Result<usize, Failed>)
+        requires { IfOk outcome (λ count. count ≤ length piece.now) }
+        ensures calls { self.new.log.calls ≡ write_call number piece.now outcome ∷ self.old.log.calls }
+        ensures input { self.new.input ≡ self.old.input }
+        ensures created { self.new.created.items ≡ self.old.created.items }
+    {
+        let Ok(count) = outcome else {
+            note_write(&mut self.log, number as u64, piece, Err(Failed));
+            if number == 1 {
+                self.note_faults = self.note_faults.saturating_add(1);
+            } else {
+                self.out_faults = self.out_faults.saturating_add(1);
+            }
+            return;
+        };
+        note_write(&mut self.log, number as u64, piece, Ok(count));
+    }
 }
 
-/// Ends the created output of this number, and notes it.
-fn end_output<D: Disk>(
+/// Reads from the current input, and notes it.
+fn read_input<D: Disk>(
     disk: &mut D,
     kept: &mut Kept<D::File>,
     number: u32,
-) -> Result<(), Failed>
+    buf: &mut [u8],
+) -> Result<usize, Failed>
+    requires { current_of kept.old.log.calls ≡ Some number }
+    ensures within { IfOk result (λ count. count ≤ length buf.old) }
+    ensures after { IfOk result (λ count. drop count buf.new ≡ drop count buf.old) }
+    ensures calls { kept.new.log.calls ≡ read_call number (length buf.old) buf.new result ∷ kept.old.log.calls }
+    ensures bytes { ReadConsumes (known_or D.left None kept.old.input) (known_or D.left None kept.new.input) result buf.new }
+    ensures file { known_or D.number 0 kept.new.input ≡ known_or D.number 0 kept.old.input }
+    ensures created { kept.new.created.items ≡ kept.old.created.items }
+    ensures asked { D.calls disk.new ≡ read_call (known_or D.number 0 kept.old.input) (length buf.old) buf.new result ∷ D.calls disk.old }
+    ensures texts { D.texts disk.new ≡ D.texts disk.old }
+{
+    let room = buf.len();
+    let Some(input) = &mut kept.input else {
+        unreachable!()
+    };
+    if let Ok(count) = disk.read(input, buf) {
+        note_read(&mut kept.log, number as u64, room, buf, Ok(count));
+        return Ok(count);
+    }
+    note_read(&mut kept.log, number as u64, room, buf, Err(Failed));
+    kept.in_faults = kept.in_faults.saturating_add(1);
+    Err(Failed)
+}
+
+/// Writes to the created output of this number, and notes it.
+fn write_output<D: Disk>(
+    disk: &mut D,
+    kept: &mut Kept<D::File>,
+    number: u32,
+    piece: &[u8],
+) -> Result<usize, Failed>
+    requires created { 2 ≤ number }
+    requires open_yet { slice_get (flags_of kept.old.created.items) (number - 2) ≡ Some false }
+    ensures within { IfOk result (λ count. count ≤ length piece.now) }
+    ensures progress { IfOk result (λ count. 0 < length piece.now → 0 < count) }
+    ensures calls { kept.new.log.calls ≡ write_call number piece.now result ∷ kept.old.log.calls }
+    ensures input { kept.new.input ≡ kept.old.input }
+    ensures bytes { WriteAppends (known_at D.held None kept.old.created.items (number - 2)) (known_at D.held None kept.new.created.items (number - 2)) result piece.now }
+    ensures others { (other : ℕ) → other ≢ number - 2 → known_at D.held None kept.new.created.items other ≡ known_at D.held None kept.old.created.items other }
+    ensures files { (other : ℕ) → known_at D.number 0 kept.new.created.items other ≡ known_at D.number 0 kept.old.created.items other }
+    ensures asked { D.calls disk.new ≡ write_call (known_at D.number 0 kept.old.created.items (number - 2)) piece.now result ∷ D.calls disk.old }
+    ensures texts { D.texts disk.new ≡ D.texts disk.old }
+{
+    let place = (number - 2) as usize;
+    if let Ok(count) = write_created(disk, &mut kept.created, place, piece) {
+        note_write(&mut kept.log, number as u64, piece, Ok(count));
+        return Ok(count);
+    }
+    note_write(&mut kept.log, number as u64, piece, Err(Failed));
+    kept.out_faults = kept.out_faults.saturating_add(1);
+    Err(Failed)
+}
+
+/// Ends the created output of this number, and notes it.
+fn end_output<D: Disk>(disk: &mut D, kept: &mut Kept<D::File>, number: u32) -> Result<(), Failed>
     requires created { 2 ≤ number }
     requires open_yet { slice_get (flags_of kept.old.created.items) (number - 2) ≡ Some false }
     ensures flags { flags_of kept.new.created.items ≡ slice_set (flags_of kept.old.created.items) (number - 2) (is_ok result) }
     ensures calls { kept.new.log.calls ≡ finish_call number result ∷ kept.old.log.calls }
+    ensures input { kept.new.input ≡ kept.old.input }
     ensures bytes { (other : ℕ) → Keeps (known_at D.held None kept.old.created.items other) (known_at D.held None kept.new.created.items other) }
     ensures files { (other : ℕ) → known_at D.number 0 kept.new.created.items other ≡ known_at D.number 0 kept.old.created.items other }
     ensures asked { D.calls disk.new ≡ finish_call (known_at D.number 0 kept.old.created.items (number - 2)) result ∷ D.calls disk.old }
     ensures texts { D.texts disk.new ≡ D.texts disk.old }
 {
-    let outcome = end_created(disk, &mut kept.created, (number - 2) as usize);
-    note_finish(&mut kept.log, number as u64, outcome);
-    outcome
+    if end_created(disk, &mut kept.created, (number - 2) as usize).is_ok() {
+        note_finish(&mut kept.log, number as u64, Ok(()));
+        return Ok(());
+    }
+    note_finish(&mut kept.log, number as u64, Err(Failed));
+    kept.out_faults = kept.out_faults.saturating_add(1);
+    Err(Failed)
 }
 
 impl<D: Disk + Drop> Host for DiskHost<D> {
-    ghost use Rattle.std.specs.Prelude.{◌+◌, ◌++◌, ◌∷◌, Some, IsSome, IsOk, OnOk, OnErr, true, is_err, take, slice_get, slice_index};
+    ghost use Rattle.std.specs.Prelude.{◌+◌};
     ghost use Rattle.snd_host.specs.Follows.{Makes};
-    ghost use Rattle.snd_host.specs.OpenedInputs.{Opens, ReadsMore};
-    ghost use Rattle.snd_host.specs.Host.{IfKnown, HasCause, CountsWrite, EndsByWrite, IsOpen, ChangesInputs, ChangesOutputs, KeepsRooms, Writes, max_outputs, longest_output_name};
+    ghost use Rattle.snd_host.specs.Host.{IsOpen, max_outputs};
     ghost use Rattle.disk_host.specs.Created.{max_created};
-    ghost use Rattle.disk_host.specs.Held.{disk_state, disk_counted_lem, input_number, output_number, KeepsInput, KeepsOutputs, KeepsOutputsBut, AsksOnce, FailsUnasked, ReadsOn, WritesOn, HoldsStay, InputStays};
+    ghost use Rattle.disk_host.specs.Held.{disk_state, input_number, output_number, KeepsInput, KeepsOutputs, KeepsOutputsBut, AsksOnce, FailsUnasked, ReadsOn, WritesOn, HoldsStay, InputStays};
 
     ghost state = { disk_state };
 
-    ghost tells_each = { λ host given known. absurd (Prim.cc) };
-
-    ghost counted = { disk_counted_lem };
-
     fn open_in(&mut self, name: &str) -> Result<InFile, Failed>
-        ensures current { IfOk result (λ file. (disk_state self.new).current ≡ Some file.0) }
-        ensures fresh { IfOk result (λ file. (disk_state self.old).current ≢ Some file.0) }
-        ensures none_current { OnErr result ((disk_state self.new).current ≡ None) }
-        ensures there { OnOk result (IfKnown (disk_state self.old).holds (λ files. IsSome (files name.now))) }
-        ensures left { OnOk result (IfKnown (disk_state self.old).holds (λ files. (disk_state self.new).left ≡ files name.now)) }
-        ensures unread { OnErr result ((disk_state self.new).left ≡ (disk_state self.old).left) }
-        ensures opened { OnOk result (Opens (record { name = name.now; read = 0 } ∷ []) (disk_state self.old) (disk_state self.new)) }
-        ensures not_opened { OnErr result ((disk_state self.new).opened ≡ (disk_state self.old).opened) }
-        ensures others { ChangesInputs (disk_state self.old) (disk_state self.new) }
-        ensures cause { HasCause (disk_state self.old).faults.inputs (disk_state self.new).faults.inputs result }
-        ensures last { (disk_state self.new).failed_last ≡ is_err result }
+        ensures fresh { IfOk result (λ file. current_of (disk_state self.old).calls ≢ Some file.0) }
         ensures made { Makes (open_call (λ file. file.0) name.now result) (disk_state self.old) (disk_state self.new) }
-        // A steady host fails only at a name that is not there.
-        ensures steady { IsSome (disk_state self.old).steady →
-            IfKnown (disk_state self.old).holds (λ files. IsSome (files name.now) → IsOk result) }
         // No output changes.
         ensures held { HoldsStay D.held D.texts self.old self.new }
         // It opens the file of this name, and the current input is then the file that this call of the disk made.
         ensures asked { AsksOnce D.calls (open_call (λ _. input_number D.number self.new) name.now result) self.old self.new }
         ensures outputs { KeepsOutputs D.number self.old self.new }
     {
-        self.input = None;
         let Ok(file) = self.disk.open(name) else {
-            note_open(&mut self.kept.log, name, Err(Failed));
-            self.in_faults = self.in_faults.saturating_add(1);
-            self.failed_last = true;
+            self.kept.refuse_input(name);
             return Err(Failed);
         };
-        self.newest = self.newest.wrapping_add(1);
-        self.input = Some(file);
-        self.failed_last = false;
-        note_open(&mut self.kept.log, name, Ok(InFile(self.newest)));
-        Ok(InFile(self.newest))
+        Ok(self.kept.take_input(name, file))
     }
 
     fn read(&mut self, file: InFile, buf: &mut [u8]) -> Result<usize, Failed>
-        requires { (disk_state self.old).current ≡ Some file.0 }
+        requires { current_of (disk_state self.old).calls ≡ Some file.0 }
         ensures within { IfOk result (λ count. count ≤ length buf.old) }
         ensures after { IfOk result (λ count. drop count buf.new ≡ drop count buf.old) }
-        ensures front { IfOk result (λ count.
-            IfKnown (disk_state self.old).left (λ rest. take count buf.new ≡ take count rest)) }
-        ensures left { IfOk result (λ count.
-            IfKnown (disk_state self.old).left (λ rest. (disk_state self.new).left ≡ Some (drop count rest))) }
-        ensures available { IfOk result (λ count. IfKnown (disk_state self.old).left (λ rest. count ≤ length rest)) }
-        ensures end { result ≡ Ok 0 → 0 < length buf.old → IfKnown (disk_state self.old).left (λ rest. rest ≡ []) }
-        ensures unread { OnErr result ((disk_state self.new).left ≡ (disk_state self.old).left) }
-        ensures counted_bytes { IfOk result (λ count. ReadsMore count (disk_state self.old) (disk_state self.new)) }
-        ensures no_bytes { OnErr result ((disk_state self.new).opened ≡ (disk_state self.old).opened) }
-        ensures current { (disk_state self.new).current ≡ (disk_state self.old).current }
-        ensures others { ChangesInputs (disk_state self.old) (disk_state self.new) }
-        ensures cause { HasCause (disk_state self.old).faults.inputs (disk_state self.new).faults.inputs result }
-        ensures last { (disk_state self.new).failed_last ≡ is_err result }
         ensures made { Makes (read_call file.0 (length buf.old) buf.new result) (disk_state self.old) (disk_state self.new) }
-        ensures steady { IsSome (disk_state self.old).steady → IsOk result }
         // Where the file knows its bytes, these are the next ones, and none come only at its end.
         ensures bytes { ReadsOn D.left buf.new self.old self.new result }
         ensures held { HoldsStay D.held D.texts self.old self.new }
@@ -250,78 +328,43 @@ impl<D: Disk + Drop> Host for DiskHost<D> {
         ensures same_input { KeepsInput D.number self.old self.new }
         ensures outputs { KeepsOutputs D.number self.old self.new }
     {
-        let room = buf.len();
-        let Some(input) = &mut self.input else {
-            unreachable!()
-        };
-        if let Ok(count) = self.disk.read(input, buf) {
-            note_read(&mut self.kept.log, file.0 as u64, room, buf, Ok(count));
-            self.failed_last = false;
-            return Ok(count);
-        }
-        note_read(&mut self.kept.log, file.0 as u64, room, buf, Err(Failed));
-        self.in_faults = self.in_faults.saturating_add(1);
-        self.failed_last = true;
-        Err(Failed)
+        read_input(&mut self.disk, &mut self.kept, file.0, buf)
     }
 
     fn create(&mut self, name: &str) -> Result<OutFile, Failed>
-        requires { length (disk_state self.old).ended < max_outputs }
-        ensures number { IfOk result (λ file. file.0 ≡ length (disk_state self.old).ended + 2) }
-        ensures ended { OnOk result ((disk_state self.new).ended ≡ (disk_state self.old).ended ++ false ∷ []) }
-        ensures created { OnOk result (IfKnown (disk_state self.old).given (λ given. (disk_state self.new).given ≡
-            Some (record given { created = given.created ++ record { name = name.now; bytes = [] } ∷ [] }))) }
-        ensures not_ended { OnErr result ((disk_state self.new).ended ≡ (disk_state self.old).ended) }
-        ensures not_created { OnErr result ((disk_state self.new).given ≡ (disk_state self.old).given) }
-        ensures others { ChangesOutputs (disk_state self.old) (disk_state self.new) }
-        ensures notes { (disk_state self.new).faults.notes ≡ (disk_state self.old).faults.notes }
-        ensures cause { HasCause (disk_state self.old).faults.outputs (disk_state self.new).faults.outputs result }
-        ensures last { (disk_state self.new).failed_last ≡ is_err result }
+        requires { length (ended_of (disk_state self.old).calls) < max_outputs }
+        ensures number { IfOk result (λ file. file.0 ≡ length (ended_of (disk_state self.old).calls) + 2) }
         ensures made { Makes (create_call (λ file. file.0) name.now result) (disk_state self.old) (disk_state self.new) }
-        // A steady host fails only past its rooms or at a name that is longer than the longest.
-        ensures steady { IfKnown (disk_state self.old).steady (λ rooms.
-            length (disk_state self.old).ended + 2 < length rooms → length name.now ≤ longest_output_name → IsOk result) }
-        ensures rooms { KeepsRooms (disk_state self.old) (disk_state self.new) }
         // No output changes.
         ensures held { HoldsStay D.held D.texts self.old self.new }
         // Nothing of the current input is eaten.
         ensures input { InputStays D.left self.old self.new }
         // It creates the file of this name, and the output of the new number is then the file that this call of the disk made.
-        ensures asked { length (disk_state self.old).ended < max_created → AsksOnce D.calls
+        ensures asked { length (ended_of (disk_state self.old).calls) < max_created → AsksOnce D.calls
             (create_call (λ file. output_number D.number self.new file.0) name.now result) self.old self.new }
         // Once so many outputs were created, it fails without asking the disk.
-        ensures no_place { max_created ≤ length (disk_state self.old).ended → FailsUnasked D.calls self.old self.new result }
+        ensures no_place { max_created ≤ length (ended_of (disk_state self.old).calls) → FailsUnasked D.calls self.old self.new result }
         ensures same_input { KeepsInput D.number self.old self.new }
-        ensures outputs { KeepsOutputsBut (length (disk_state self.old).ended + 2) D.number self.old self.new }
+        ensures outputs { KeepsOutputsBut (length (ended_of (disk_state self.old).calls) + 2) D.number self.old self.new }
     {
         let number = self.kept.created.len() as u32 + 2;
         if self.kept.created.is_full() {
-            note_create(&mut self.kept.log, name, Err(Failed));
-            self.out_faults = self.out_faults.saturating_add(1);
-            self.failed_last = true;
+            self.kept.refuse_output(name);
             return Err(Failed);
         }
         let Ok(file) = self.disk.create(name) else {
-            note_create(&mut self.kept.log, name, Err(Failed));
-            self.out_faults = self.out_faults.saturating_add(1);
-            self.failed_last = true;
+            self.kept.refuse_output(name);
             return Err(Failed);
         };
-        self.kept.add(name, number, file);
-        self.failed_last = false;
+        self.kept.take_output(name, number, file);
         Ok(OutFile(number))
     }
 
     fn write(&mut self, file: OutFile, piece: &[u8]) -> Result<usize, Failed>
-        requires { IsOpen (disk_state self.old).ended file.0 }
+        requires { IsOpen (ended_of (disk_state self.old).calls) file.0 }
         ensures within { IfOk result (λ count. count ≤ length piece.now) }
         ensures progress { IfOk result (λ count. 0 < length piece.now → 0 < count) }
-        ensures wrote { IfOk result (λ count. Writes file.0 (take count piece.now) (disk_state self.old) (disk_state self.new)) }
-        ensures unwritten { OnErr result (Writes file.0 [] (disk_state self.old) (disk_state self.new)) }
-        ensures cause { CountsWrite file.0 (disk_state self.old).faults (disk_state self.new).faults result }
-        ensures last { EndsByWrite file.0 (disk_state self.old) (disk_state self.new) result }
         ensures made { Makes (write_call file.0 piece.now result) (disk_state self.old) (disk_state self.new) }
-        ensures steady { IfKnown (disk_state self.old).steady (λ rooms. length piece.now ≤ slice_index rooms file.0 → IsOk result) }
         // Where the output knows its bytes, those taken come after them, and no other output changes.
         ensures bytes { WritesOn D.held D.texts file.0 piece.now self.old self.new result }
         // Nothing of the current input is eaten.
@@ -332,50 +375,22 @@ impl<D: Disk + Drop> Host for DiskHost<D> {
         ensures outputs { KeepsOutputs D.number self.old self.new }
     {
         if file.0 == 1 {
-            if let Ok(count) = self.disk.complain(piece) {
-                note_write(&mut self.kept.log, 1, piece, Ok(count));
-                return Ok(count);
-            }
-            note_write(&mut self.kept.log, 1, piece, Err(Failed));
-            self.note_faults = self.note_faults.saturating_add(1);
-            return Err(Failed);
+            let outcome = self.disk.complain(piece);
+            self.kept.count_write(1, piece, outcome);
+            return outcome;
         }
         if file.0 == 0 {
-            let Ok(count) = self.disk.report(piece) else {
-                note_write(&mut self.kept.log, 0, piece, Err(Failed));
-                self.out_faults = self.out_faults.saturating_add(1);
-                self.failed_last = true;
-                return Err(Failed);
-            };
-            note_write(&mut self.kept.log, 0, piece, Ok(count));
-            self.failed_last = false;
-            return Ok(count);
+            let outcome = self.disk.report(piece);
+            self.kept.count_write(0, piece, outcome);
+            return outcome;
         }
-        let place = (file.0 - 2) as usize;
-        let Ok(count) = write_created(&mut self.disk, &mut self.kept.created, place, piece) else {
-            note_write(&mut self.kept.log, file.0 as u64, piece, Err(Failed));
-            self.out_faults = self.out_faults.saturating_add(1);
-            self.failed_last = true;
-            return Err(Failed);
-        };
-        note_write(&mut self.kept.log, file.0 as u64, piece, Ok(count));
-        self.failed_last = false;
-        Ok(count)
+        write_output(&mut self.disk, &mut self.kept, file.0, piece)
     }
 
     fn finish(&mut self, file: OutFile) -> Result<(), Failed>
         requires created { 2 ≤ file.0 }
-        requires open_yet { slice_get (disk_state self.old).ended (file.0 - 2) ≡ Some false }
-        ensures ended { OnOk result ((disk_state self.new).ended ≡ slice_set (disk_state self.old).ended (file.0 - 2) true) }
-        ensures not_ended { OnErr result ((disk_state self.new).ended ≡ (disk_state self.old).ended) }
-        ensures given { (disk_state self.new).given ≡ (disk_state self.old).given }
-        ensures others { ChangesOutputs (disk_state self.old) (disk_state self.new) }
-        ensures notes { (disk_state self.new).faults.notes ≡ (disk_state self.old).faults.notes }
-        ensures cause { HasCause (disk_state self.old).faults.outputs (disk_state self.new).faults.outputs result }
-        ensures last { (disk_state self.new).failed_last ≡ is_err result }
+        requires open_yet { slice_get (ended_of (disk_state self.old).calls) (file.0 - 2) ≡ Some false }
         ensures made { Makes (finish_call file.0 result) (disk_state self.old) (disk_state self.new) }
-        ensures steady { IsSome (disk_state self.old).steady → IsOk result }
-        ensures rooms { KeepsRooms (disk_state self.old) (disk_state self.new) }
         // No output changes.
         ensures held { HoldsStay D.held D.texts self.old self.new }
         // Nothing of the current input is eaten.
@@ -385,12 +400,6 @@ impl<D: Disk + Drop> Host for DiskHost<D> {
         ensures same_input { KeepsInput D.number self.old self.new }
         ensures outputs { KeepsOutputs D.number self.old self.new }
     {
-        if end_output(&mut self.disk, &mut self.kept, file.0).is_ok() {
-            self.failed_last = false;
-            return Ok(());
-        }
-        self.out_faults = self.out_faults.saturating_add(1);
-        self.failed_last = true;
-        Err(Failed)
+        end_output(&mut self.disk, &mut self.kept, file.0)
     }
 }
