@@ -2,15 +2,13 @@
 ghost use Rattle.std.specs.Prelude.{◌≡◌, ◌≤◌, ◌++◌, IfOk, is_some, unwrap_or, [], ◌∷◌};
 ghost use Rattle.wav_form.specs.Wave.{header_of};
 ghost use Rattle.dsp_core.specs.DspChip.{dsp_chip};
-ghost use Rattle.snd_host.specs.Host.{HostState, IfKnown};
+ghost use Rattle.snd_host.specs.Host.{HostState};
 ghost use Rattle.input_files.specs.Inputs.{table_input};
-ghost use Rattle.command_runner.specs.NamedInputs.{Held, first, held_by};
-ghost use Rattle.command_runner.specs.Answer.{outputs_of};
+ghost use Rattle.command_runner.specs.NamedInputs.{Held, first};
 ghost use Rattle.command_runner.specs.Conduct.{Plans, PreparesBy};
 ghost use Rattle.command_runner.specs.OutputCalls.{at_once};
 ghost use Rattle.command_runner.specs.RunCalls.{AttemptsBy};
 ghost use Rattle.command_runner.specs.Delivery.{CanDeliver};
-ghost use Rattle.command_runner.specs.Making.{MadeAtOnce};
 ghost use Rattle.command_runner.specs.Plan.{stream_makes};
 ghost use Rattle.render_files.specs.RenderReport.{sound_report};
 ghost use Rattle.num_fix.specs.Limits.{max_frames};
