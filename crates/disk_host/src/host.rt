@@ -253,7 +253,8 @@ fn write_output<D: Disk>(
     ensures progress { IfOk result (λ count. 0 < length piece.now → 0 < count) }
     ensures calls { kept.new.log.calls ≡ write_call number piece.now result ∷ kept.old.log.calls }
     ensures input { kept.new.input ≡ kept.old.input }
-    ensures bytes { WriteAppends (known_at D.held None kept.old.created.items (number - 2)) (known_at D.held None kept.new.created.items (number - 2)) result piece.now }
+    ensures bytes { WriteAppends (known_at D.held None kept.old.created.items (number - 2))
+        (known_at D.held None kept.new.created.items (number - 2)) result piece.now }
     ensures others { (other : ℕ) → other ≢ number - 2 → known_at D.held None kept.new.created.items other ≡ known_at D.held None kept.old.created.items other }
     ensures files { (other : ℕ) → known_at D.number 0 kept.new.created.items other ≡ known_at D.number 0 kept.old.created.items other }
     ensures asked { D.calls disk.new ≡ write_call (known_at D.number 0 kept.old.created.items (number - 2)) piece.now result ∷ D.calls disk.old }
