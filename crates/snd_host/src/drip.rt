@@ -1,6 +1,6 @@
 // A host in memory that gives and takes one byte at a time.
 ghost use Rattle.std.specs.Prelude.{◌≡◌, ◌≤◌};
-ghost use Rattle.snd_host.specs.History.{current_of, ended_of, given_of, left_of};
+ghost use Rattle.snd_host.specs.History.{current_of, ended_of, given_of, in_faults, left_of, note_faults, out_faults};
 ghost use Rattle.snd_host.specs.Memory.{memory_state, names_of};
 
 use crate::{
@@ -11,7 +11,8 @@ use crate::{
 /// A host in memory whose reads give at most one byte, and whose writes take at most one.
 ///
 /// Its calls are those of the host inside, up to then, and after them those that were made of it. Those of the host inside come to
-/// the same: the same input is current, the same outputs were ended and given the same bytes, and the same is left to be read.
+/// the same: the same input is current, the same outputs were ended and given the same bytes, the same is left to be read, and as
+/// many calls of each kind failed.
 #[derive(Drop)]
 pub struct DripHost {
     host: MemHost,
@@ -20,6 +21,9 @@ pub struct DripHost {
     ghost ended_is: { ended_of log.calls ≡ ended_of (memory_state host).calls },
     ghost left_is: { left_of (names_of host) log.calls ≡ left_of (names_of host) (memory_state host).calls },
     ghost given_is: { given_of log.calls ≡ given_of (memory_state host).calls },
+    ghost in_faults_are: { in_faults log.calls ≡ in_faults (memory_state host).calls },
+    ghost note_faults_are: { note_faults log.calls ≡ note_faults (memory_state host).calls },
+    ghost out_faults_are: { out_faults log.calls ≡ out_faults (memory_state host).calls },
 }
 
 impl DripHost {
@@ -38,6 +42,9 @@ impl DripHost {
     pub fn inner(&self) -> &MemHost
         ensures host { result.now ≡ inside self.now }
         ensures given { given_of (memory_state result.now).calls ≡ given_of (drip_state self.now).calls }
+        ensures in_faults { in_faults (memory_state result.now).calls ≡ in_faults (drip_state self.now).calls }
+        ensures note_faults { note_faults (memory_state result.now).calls ≡ note_faults (drip_state self.now).calls }
+        ensures out_faults { out_faults (memory_state result.now).calls ≡ out_faults (drip_state self.now).calls }
     {
         &self.host
     }
