@@ -2,6 +2,7 @@
 use Rattle.std.proofs.Common.{◌≡◌, ℕ, ℤ, ◌+◌, Bool, true, false, List, [], ◌∷◌, length, Option, Some, None, Result, Ok, Err, refl, sym, ap, subst, if◌then◌else◌}
 use Rattle.std.specs.Prelude.{is_ok}
 use Rattle.snd_host.specs.Calls.{Call}
+use Rattle.snd_host.specs.History.{ended_of}
 use Rattle.snd_host.specs.Host.{HostState}
 use Rattle.command_runner.specs.Answer.{Answer}
 use Rattle.command_runner.specs.NamedInputs.{TakesInOrder, held_of, second}
