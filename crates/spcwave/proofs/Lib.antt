@@ -1,2 +1,2 @@
--- Runs: a run is what its command did, and then its complaint.
-pub mod Runs
+-- WholeRun: a run is what its command did, and then its complaint.
+pub mod WholeRun

@@ -1,4 +1,4 @@
-use Rattle.spcwave.proofs.Runs.{is_run}
+use Rattle.spcwave.proofs.WholeRun.{is_run}
 use Rattle.spcwave.proofs.run.run.Goals as goal
 
 pub returns : goal.returns

@@ -1,10 +1,7 @@
 -- A run is what its command did, and then its complaint.
-use Rattle.std.proofs.Common.{◌≡◌, ◌++◌, List, Option, Some, subst}
+use Rattle.std.proofs.Common.{◌≡◌, ◌++◌, Option, Some}
 use Rattle.std.specs.Prelude.{◌↔◌}
-use Rattle.std.proofs.lemmas.List.{append_assoc}
-use Rattle.snd_host.specs.Calls.{Call}
 use Rattle.snd_host.specs.Host.{HostState}
-use Rattle.snd_host.specs.Follows.{Since}
 use Rattle.snd_host.proofs.CallsInOrder.{since_then}
 use Rattle.command_runner.specs.RunCalls.{AttemptsBy, NotesLine}
 use Rattle.command_runner.specs.declared.refusals.Refusal.{Refusal}
@@ -26,7 +23,7 @@ is_run command r x y z status is attempt note misread = record {
   taken = attempt.taken;
   made = attempt.made;
   note = note.note;
-  since = subst (λ (l : List Call). Since l x z) (append_assoc attempt.taken attempt.made note.note) (since_then (attempt.taken ++ attempt.made) note.note x y z attempt.since note.since);
+  since = since_then (attempt.taken ++ attempt.made) note.note x y z attempt.since note.since;
   ends = attempt.ends;
   complaint = note.noted;
   misread = misread;
