@@ -1,4 +1,4 @@
-use Rattle.std.proofs.Common.{◌≡◌, ◌∙◌, ap, sym, subst, length, List, Bool, Some}
+use Rattle.std.proofs.Common.{rules, ◌≡◌, ◌∙◌, ap, sym, subst, length, List, Bool, Some}
 use Rattle.std.specs.Prelude.{slice_get, false}
 use Rattle.command_runner.proofs.Flags.{writes_keep_flags, finish_counts}
 use Rattle.tests_files.proofs.hosts.write_and_end.Goals as goal
