@@ -327,17 +327,17 @@ MUTANTS = [
     Mutant('a write of a port stays out of memory', ['lock_step', 'sound_bus', 'lag_bus'], ['tests_programs'], [
         ('lock_step/specs/LockStep.antt', 'memory = with_byte m.memory at value', 'memory = if writes_port at then m.memory else with_byte m.memory at value'),
         ('sound_bus/src/plain.rt', 'self.memory.put(addr, value);', 'if !writes_port(addr) {\n            self.memory.put(addr, value);\n        }'),
-        ('lag_bus/src/lag.rt', '{1}    late.put(at, value);', '    if !writes_port(at) {\n        late.put(at, value);\n    }'),
-        ('lag_bus/src/lag.rt', '{2}    late.put(at, value);', '    if !writes_port(at) {\n        late.put(at, value);\n    }')]),
+        ('lag_bus/src/lag.rt', '{1}    deferred.put(at, value);', '    if !writes_port(at) {\n        deferred.put(at, value);\n    }'),
+        ('lag_bus/src/lag.rt', '{2}    deferred.put(at, value);', '    if !writes_port(at) {\n        deferred.put(at, value);\n    }')]),
     Mutant("a write of a timer's count stays out of memory", ['lock_step', 'sound_bus', 'lag_bus'], ['tests_programs'], [
         ('lock_step/specs/LockStep.antt', 'memory = with_byte m.memory at value', 'memory = if is_within 0xFA 0xFC at then m.memory else with_byte m.memory at value'),
         ('sound_bus/src/plain.rt', 'self.memory.put(addr, value);', 'if addr < 0xFA || addr > 0xFC {\n            self.memory.put(addr, value);\n        }'),
-        ('lag_bus/src/lag.rt', '{1}    late.put(at, value);', '    if at < 0xFA || at > 0xFC {\n        late.put(at, value);\n    }'),
-        ('lag_bus/src/lag.rt', '{2}    late.put(at, value);', '    if at < 0xFA || at > 0xFC {\n        late.put(at, value);\n    }')]),
+        ('lag_bus/src/lag.rt', '{1}    deferred.put(at, value);', '    if at < 0xFA || at > 0xFC {\n        deferred.put(at, value);\n    }'),
+        ('lag_bus/src/lag.rt', '{2}    deferred.put(at, value);', '    if at < 0xFA || at > 0xFC {\n        deferred.put(at, value);\n    }')]),
     Mutant('a write above the ROM that shows is lost', ['lock_step', 'sound_bus', 'lag_bus'], ['tests_programs'], [
         ('lock_step/specs/LockStep.antt', 'memory = with_byte m.memory at value', 'memory = if nat_lt 0xFFBF at && io.answers_read m.io at then m.memory else with_byte m.memory at value'),
         ('sound_bus/src/plain.rt', 'self.memory.put(addr, value);', 'if addr < 0xFFC0 || self.io.read(addr).is_none() {\n            self.memory.put(addr, value);\n        }'),
-        ('lag_bus/src/lag.rt', '                self.late.put(addr, value);', '                if addr < 0xFFC0 || self.time.read(addr).is_none() {\n                    self.late.put(addr, value);\n                }')]),
+        ('lag_bus/src/lag.rt', '                self.deferred.put(addr, value);', '                if addr < 0xFFC0 || self.time.read(addr).is_none() {\n                    self.deferred.put(addr, value);\n                }')]),
 
     # traces, and batches that are counted
     Mutant('the letters of registers and ports exchanged', ['trace_form'], ['tests_parts'], [
@@ -357,8 +357,8 @@ MUTANTS = [
         (LINE, 'decimal port ++ codes " " ++ two_digits value', 'two_digits value ++ codes " " ++ decimal port'),
         (LINE_CODE, 'line.append_decimal(port);\n    line.append(b" ");\n    line.append_byte(value);',
          'line.append_byte(value);\n    line.append(b" ");\n    line.append_decimal(port);')]),
-    Mutant('room for 255 events', ['trace_form', 'lag_bus'], ['tests_parts', 'tests_tunes'], [
-        ('trace_form/src/ring.rt', 'EVENT_ROOM: usize = 256', 'EVENT_ROOM: usize = 255')]),
+    Mutant('a ring of 255 events', ['trace_form', 'lag_bus'], ['tests_parts', 'tests_tunes'], [
+        ('trace_form/src/ring.rt', 'EVENT_CAPACITY: usize = 256', 'EVENT_CAPACITY: usize = 255')]),
     Mutant("the echo's batches counted as the memory's", ['lag_bus'], ['tests_tunes'], [
         ('lag_bus/specs/Book.antt', 'echo = count_after counts.echo 1', 'memory = count_after counts.memory 1'),
         ('lag_bus/src/counting.rt', 'counts.echo = counts.echo.saturating_add(1)', 'counts.memory = counts.memory.saturating_add(1)')]),
@@ -602,7 +602,7 @@ MUTANTS = [
         (CHIP, 'Prelude.{ℕ, ◌+◌,', 'Prelude.{ℕ, min, ◌+◌,'),
         ('dsp_state/specs/Settings.antt', 'n % 0x4000 < 0x4000', 'min 0x3FFF n < 0x4000'), ('dsp_state/specs/Settings.antt', '◌%◌, ◌<◌,', 'min, ◌<◌,'),
         (REGISTERS, 'low + 0x100 * (high % 0x40)', '(low + 0x100 * high).min(0x3fff)')]),
-    Mutant('a write of KON adds to what waits', ['dsp_state', 'dsp_core'], ['tests_sounds'], [
+    Mutant('a write of KON adds to what is pending', ['dsp_state', 'dsp_core'], ['tests_sounds'], [
         (OUTSIDE, 'then byte else s.hidden.kon_pending', 'then bit_or byte s.hidden.kon_pending else s.hidden.kon_pending'), (OUTSIDE, 'ℤ, replicate,', 'ℤ, bit_or, replicate,'),
         (DSP_CODE, 'self.state.hidden.kon_pending = value', 'self.state.hidden.kon_pending |= value')]),
     Mutant('a write of ENDX stores its byte', ['dsp_state', 'dsp_core'], ['tests_sounds'], [

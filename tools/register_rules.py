@@ -135,7 +135,7 @@ class Chip:
         self.registers, self.queue = bytearray(128), []
         self.history = collections.deque(maxlen=engine.reads_late + 1)         # of the registers, the last one that of now
         self.voices = {1: Voice(), 2: Voice()}
-        self.waiting, self.taken, self.keyed = 0, 0, 0        # KON as written; what was taken of it at the last poll, and ever
+        self.pending, self.latched, self.keyed = 0, 0, 0        # KON as written; what was latched of it at the last poll, and ever
         self.made, self.counter = engine.parity, engine.counter
         self.reads_late, self.writes_late = engine.reads_late, engine.writes_late
 
@@ -148,7 +148,7 @@ class Chip:
             _, address, value = self.queue.pop(0)
             self.registers[address] = 0 if address == ENDX else value
             if address == KON:
-                self.waiting = value
+                self.pending = value
 
     def read(self, address):
         """Own registers of a voice and ENDX are seen late; what the driver wrote is there at once."""
@@ -164,20 +164,20 @@ class Chip:
         self.do_writes()
         registers, poll = self.registers, self.made % 2 == 0
         if poll:
-            self.waiting &= ~self.taken
-            self.taken = self.waiting
-            self.keyed |= self.taken
+            self.pending &= ~self.latched
+            self.latched = self.pending
+            self.keyed |= self.latched
         self.counter = (self.counter - 1) % 30720
         ends = keyed = 0
         for number, voice in self.voices.items():
             at, bit = 16 * number, 1 << number
             if not self.keyed & bit:
                 continue
-            flags = registers[FLG] & 0x80, poll, registers[KOFF] & bit, self.taken & bit
+            flags = registers[FLG] & 0x80, poll, registers[KOFF] & bit, self.latched & bit
             shown = voice.sample(registers[at:at + 10], flags, lambda rate: rate and self.counter % PERIODS[rate] == 0)
             registers[at + 8], registers[at + 9] = shown[:2]
             ends |= bit * shown[2]
-            keyed |= bit * bool(poll and self.taken & bit)
+            keyed |= bit * bool(poll and self.latched & bit)
         registers[ENDX] = (registers[ENDX] | ends) & ~keyed
         if self.reads_late:
             self.history.append(bytes(registers))

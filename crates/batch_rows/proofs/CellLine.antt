@@ -80,9 +80,9 @@ near_entry memory chain (suc i) = rw (chain_entry-suc memory chain i) (by (has_e
     ]
 
 -- cells that miss the 162 bytes from both on miss the chain
-pub chain_is_far : (cell : ℕ → ℕ) (memory : List ℕ) (n : ℕ) (chain : ChainStart) → n ≤ 64 → CellsMiss cell n chain.block 162 → CellsMiss cell n chain.loop_word 162
+pub chain_is_missed : (cell : ℕ → ℕ) (memory : List ℕ) (n : ℕ) (chain : ChainStart) → n ≤ 64 → CellsMiss cell n chain.block 162 → CellsMiss cell n chain.loop_word 162
     → CellsMissChain cell memory n chain
-chain_is_far cell memory n chain few first again i pace j k o below small inside same =
+chain_is_missed cell memory n chain few first again i pace j k o below small inside same =
     let last = near_entry memory chain i in
     elim last.stands [
       | inl at ↦ first j k (9 * last.blocks + o) below small (omega (arith, last.within, pace, few, inside)) (same ∙ omega (arith, at))

@@ -1,4 +1,4 @@
--- The voices that a sample keys are those whose key-ons its poll took.
+-- The voices that a sample keys are those whose key-ons its poll latched.
 use Rattle.std.proofs.Common.{◌≡◌, ℕ, ◌+◌, ◌*◌, ◌/◌, ◌%◌, ◌^◌, ◌<◌, ◌==◌, ◌&&◌, List, [], ◌∷◌, ℤ, pos, Bool, true, false, length, map, if◌then◌else◌, refl, add-one, arith}
 use Rattle.std.proofs.lemmas.Bool.Decides.{nat_tests}
 use Rattle.std.proofs.lemmas.Nat.{mod-pow-add, shr-shr, pow-add}

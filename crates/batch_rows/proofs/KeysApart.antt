@@ -40,7 +40,7 @@ one_more_poll k s j = by ((k + j) % 2 == 0) refl
     by true even = rw even refl
     by false odd = rw odd refl
 
--- where no key-on waits or was taken, that stays so
+-- where no key-on is pending or latched, that stays so
 unkeyed_next : (s : ChipState) (k : ℕ) → IsUnkeyed s → IsUnkeyed (before_voices s k)
 unkeyed_next s k none = by (k % 2 == 0) refl
   where
@@ -82,7 +82,7 @@ unkeyed_after_four k s small = by (k % 2 == 0) refl
         let same : (keys_after k s 4).hidden.kon_pending ≡ (keys_after k s 4).hidden.kon_latched = settled k s 1 2 first in
         record { kon_pending = same ∙ none; kon_latched = none }
 
--- so samples after which none waits or was taken leave the keys as they are
+-- so samples after which none is pending or latched leave the keys as they are
 pub all_keys : (k : ℕ) (s : ChipState) (keyed n : ℕ) → keyed ≤ n → (keyed < n → IsUnkeyed (keys_after k s keyed)) → with_keys_of s (keys_after k s keyed) ≡ with_keys_of s (keys_after k s n)
 all_keys k s keyed n few rest = elim (cases_lt keyed n) [
   | inl more ↦ (let now = rest more in let end = unkeyed_later k s keyed n few now in rw (now.kon_pending, now.kon_latched, end.kon_pending, end.kon_latched) refl)

@@ -1,4 +1,4 @@
--- The results of a batch are those of its last sample, but for ENDX; and the keys that a batch takes are taken at its first poll.
+-- The results of a batch are those of its last sample, but for ENDX; and the key-ons that a batch latches are latched at its first poll.
 use Rattle.std.proofs.Common.{◌≡◌, ◌≢◌, ℕ, zero, suc, ◌+◌, ◌-◌, ◌*◌, ◌%◌, ◌<◌, ◌≤◌, ◌==◌, List, [], ◌∷◌, Bool, true, false, length, get_or, slice_index, slice_set, refl, ap, sym, ◌∙◌, arith}
 use Rattle.std.specs.List.{range_with_len}
 use Rattle.std.proofs.lemmas.List.{get_or-set_same, set-set, set_comm, length-set}
@@ -97,7 +97,7 @@ none_left byte within =
     let there : (without_bits byte byte == 0) ≡ true = rw same at test in
     grind (arith, nat_tests)
 
--- at a poll both waiting and taken key-ons are those that waited and weren't taken; else both stay
+-- at a poll both pending and latched key-ons become those that were pending and not latched; else both stay
 module _ (s : ChipState) (k : ℕ) where
   pub at_poll : (k % 2 == 0) ≡ true → ((before_voices s k).hidden.kon_pending ≡ without_bits s.hidden.kon_pending s.hidden.kon_latched) × ((before_voices s k).hidden.kon_latched ≡ without_bits s.hidden.kon_pending s.hidden.kon_latched)
   unfolding after_poll after_noise
@@ -120,7 +120,7 @@ small_keys k s (suc n) small = by ((k + n) % 2 == 0) refl (small_keys k s n smal
     by true even before = let same = (at_poll now (k + n) even).0 in omega (arith, same, before, and_le_l now.hidden.kon_pending (0xff - now.hidden.kon_latched))
     by false odd before = let same = (between_polls now (k + n) odd).0 in omega (arith, same, before)
 
--- from the first poll of a batch on the key-ons that wait are those that are taken
+-- from the first poll of a batch on the pending key-ons are the latched ones
 pub settled : (k : ℕ) (s : ChipState) (i more : ℕ) → ((k + i) % 2 == 0) ≡ true → (keys_after k s (suc (more + i))).hidden.kon_pending ≡ (keys_after k s (suc (more + i))).hidden.kon_latched
 unfolding keys_after
 settled k s i zero even =

@@ -8,7 +8,7 @@ use Rattle.dsp_state.specs.declared.state.ChipState.{ChipState}
 abbrev pub with_keys_of : ChipState → (other : ChipState) → ChipState
 with_keys_of s other = record s { hidden = record s.hidden { kon_pending = other.hidden.kon_pending; kon_latched = other.hidden.kon_latched } }
 
--- no key-on waits, and none was taken
+-- no key-on is pending, and none is latched
 pub record IsUnkeyed (s : ChipState) : Type 0 where
   pub kon_pending : s.hidden.kon_pending ≡ 0
   pub kon_latched : s.hidden.kon_latched ≡ 0

@@ -15,7 +15,7 @@ use Rattle.dsp_state.specs.Valid.{is_valid}
 use Rattle.dsp_state.specs.declared.registers.TheConstants.{FLG, ENDX}
 use Rattle.dsp_state.specs.declared.state.ChipState.{ChipState}
 use Rattle.reach_laws.specs.CellsMiss.{CellsMissVoices}
-use Rattle.batch_rows.specs.Afar.{far_pages_of_chip}
+use Rattle.batch_rows.specs.BoundingPages.{bounding_pages_of_chip}
 use Rattle.batch_rows.specs.Apart.{VoicesReadTheSame}
 use Rattle.batch_rows.specs.Once.{put_once, endx_after}
 use Rattle.batch_rows.specs.Rows.{by_rows, keys_after, results_after}
@@ -44,10 +44,10 @@ StillByRows =
     → samples sample n k s memory ≡ by_rows n k s memory
 
 -- where the window has no page of the conservative bounds of what voices can read, the reach isn't entangled
-abbrev pub FarChainsApart : Type 0
-FarChainsApart =
+abbrev pub ApartByBounds : Type 0
+ApartByBounds =
     (s : ChipState) (memory : List ℕ)
-    → have_common_page (set.from_list (far_pages_of_chip s memory)) (set.from_list (window_pages (chip_window s))) ≡ false
+    → have_common_page (set.from_list (bounding_pages_of_chip s memory)) (set.from_list (window_pages (chip_window s))) ≡ false
     → (chip_reach s memory).entangled ≡ false
 
 -- the results of a batch are those of its last sample, but for ENDX
@@ -56,7 +56,7 @@ ResultsOnce =
     (rows : ℕ → List VoiceOut) (registers : List ℕ) (n : ℕ) → ((j : ℕ) → length (rows j) ≡ 8) → ENDX < length registers
     → results_after rows registers (suc n) ≡ put_once (rows n) (endx_after rows (slice_index registers ENDX) (suc n)) registers
 
--- a poll after the first of a batch takes no key-ons
+-- a poll after the first of a batch latches no key-ons
 abbrev pub KeysOnce : Type 0
 KeysOnce =
     (k : ℕ) (s : ChipState) (i more : ℕ) → s.hidden.kon_pending < 0x100 → is_polled (k + i) ≡ true → is_polled (k + suc (more + i)) ≡ true

@@ -3,7 +3,7 @@
 -- Apart: that the voices of a batch read nothing that its echo writes.
 -- AddsEcho: what is there once the echo has played over a batch.
 -- Once: what a batch does once.
--- Afar: what voices can read, by conservative bounds.
+-- BoundingPages: what voices can read, by conservative bounds.
 -- CellLine: cells of the echo that stand one after another.
 -- KeyRows: the rows of keys and noise that the voices of a batch read.
 -- KeysAndNoise: the keys and the noise of a batch, each by itself.
@@ -20,7 +20,7 @@ pub mod Rows
 pub mod Apart
 pub mod AddsEcho
 pub mod Once
-pub mod Afar
+pub mod BoundingPages
 pub mod CellLine
 pub mod KeyRows
 pub mod KeysAndNoise

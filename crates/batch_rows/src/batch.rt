@@ -1,7 +1,7 @@
 //! A batch by rows.
 
 ghost use Rattle.std.specs.Prelude.{◌≡◌, ◌≤◌, ◌+◌, length};
-ghost use Rattle.trace_form.specs.Rooms.{frame_room};
+ghost use Rattle.trace_form.specs.Capacities.{frame_capacity};
 ghost use Rattle.dsp_state.specs.Settings.{settings_of};
 ghost use Rattle.batch_rows.specs.AddsFrames.{AddsFrames};
 ghost use Rattle.batch_rows.specs.Reads.{IsBatch, batch_by_rows};
@@ -31,7 +31,7 @@ pub fn play_batch(
 )
     requires batch { IsBatch samples.now }
     requires settings { settings.now ≡ settings_of state.old.registers state.old.muted }
-    requires frame_room { length frames.old + samples.now.n ≤ frame_room }
+    requires frame_capacity { length frames.old + samples.now.n ≤ frame_capacity }
     ensures made { AddsFrames (batch_by_rows samples.now state.old memory.old) state.new memory.new frames.old frames.new }
 {
     let n = samples.n;

@@ -1,7 +1,7 @@
 //! The echo of a batch, over its rows of sums.
 
 ghost use Rattle.std.specs.Prelude.{◌≤◌, ◌+◌, length};
-ghost use Rattle.trace_form.specs.Rooms.{frame_room};
+ghost use Rattle.trace_form.specs.Capacities.{frame_capacity};
 ghost use Rattle.echo_unit.specs.EchoOverBatch.{echo_over_sums};
 ghost use Rattle.chip_form.specs.Limits.{max_samples_of_batch};
 ghost use Rattle.batch_rows.specs.AddsEcho.{AddsEcho};
@@ -20,7 +20,7 @@ pub fn play_echo(
     frames: &mut Frames,
 )
     requires few { n ≤ max_samples_of_batch }
-    requires frame_room { length frames.old + n ≤ frame_room }
+    requires frame_capacity { length frames.old + n ≤ frame_capacity }
     ensures { AddsEcho (echo_over_sums regs.now sums.now echo.old memory.old n) echo.new memory.new frames.old frames.new }
 {
     let row = echo.play(n, regs, sums, memory);

@@ -18,8 +18,8 @@ pub(crate) fn keyed_in(rows: &BatchRows, j: u8) -> u8
     if rows.poll[place] { rows.kon[place] } else { 0 }
 }
 
-/// Whether no key-on is taken in any sample of a batch.
-fn are_none_taken(rows: &BatchRows) -> bool
+/// Whether no key-on is latched in any sample of a batch.
+fn are_none_latched(rows: &BatchRows) -> bool
     ensures { result ≡ true → (j : ℕ) → j < BATCH_SIZE → slice_index rows.now.kon j ≡ 0 }
 {
     rows.any == 0
@@ -43,7 +43,7 @@ pub fn endx_of_batch(endx: u8, n: u8, rows: &BatchRows, ends: &[u8; BATCH_SIZE])
     requires few { n ≤ max_samples_of_batch }
     ensures { (answers : ℕ → List VoiceOut) → AreBits n answers rows.now ends.now → result ≡ endx_after answers endx n }
 {
-    if are_none_taken(rows) {
+    if are_none_latched(rows) {
         return gained_endx(endx, n, rows, ends);
     }
     let mut now = endx;

@@ -52,7 +52,7 @@ pub fn step_noise(state: &mut ChipState, rate: u8, clock: &RateClock)
 /// The first samples of a batch, of which two poll the keys: later ones change them no more.
 const KEYED_SAMPLES: u8 = 4;
 
-/// How many of n samples can change the keys: none where no key-on waits or was taken. One that waits is taken at a poll and dropped at the next.
+/// How many of n samples can change the keys: none where no key-on is pending or latched. A pending one is latched at a poll and dropped at the next.
 fn keyed_samples(state: &ChipState, n: u8) -> u8
     ensures few { result ≤ n }
     ensures rest { (k : ℕ) → result < n → IsUnkeyed (keys_after k state.now result) }
@@ -64,7 +64,7 @@ fn keyed_samples(state: &ChipState, n: u8) -> u8
     }
 }
 
-/// Polls the keys in n samples from a number on, and gives the key-ons that are taken in each.
+/// Polls the keys in n samples from a number on, and returns the key-ons that are latched in each.
 fn poll_each(state: &mut ChipState, number: u32, n: u8) -> [u8; BATCH_SIZE]
     requires few { n ≤ max_samples_of_batch }
     requires number { number + n ≤ max_samples_of_chip }

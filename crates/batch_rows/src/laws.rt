@@ -1,5 +1,5 @@
 // The laws of batches by rows.
-ghost use Rattle.batch_rows.specs.Laws.{ApartByRows, ReachByRows, BytesByRows, StillByRows, FarChainsApart, ResultsOnce, KeysOnce};
+ghost use Rattle.batch_rows.specs.Laws.{ApartByRows, ReachByRows, BytesByRows, StillByRows, ApartByBounds, ResultsOnce, KeysOnce};
 
 /// Samples whose voices read nothing that the echo writes are those by rows. They are such where the echo can't write what voices read, where
 /// the cells that it writes in them have no byte that a voice can read in them, and where echo writes are off.
@@ -11,11 +11,11 @@ pub fn batches_by_rows()
 {}
 
 /// Where the window has no page of the two runs of 162 bytes of each chain, nor of the entries, the reach isn't entangled: no chain is walked.
-pub fn chains_from_afar()
-    ensures { FarChainsApart }
+pub fn chains_by_bounds()
+    ensures { ApartByBounds }
 {}
 
-/// The results of a batch are those of its last sample, but for ENDX. The key-ons that a batch takes are taken at its first poll.
+/// The results of a batch are those of its last sample, but for ENDX. The key-ons that a batch latches are latched at its first poll.
 pub fn once_a_batch()
     ensures results { ResultsOnce }
     ensures keys { KeysOnce }

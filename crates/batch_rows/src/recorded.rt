@@ -2,7 +2,7 @@
 
 ghost use Rattle.std.specs.Prelude.{◌≡◌, ◌≤◌, ◌<◌, ◌+◌, ◌*◌, ℕ, length, slice_index};
 ghost use Rattle.num_fix.specs.SignedWords.{number_at};
-ghost use Rattle.trace_form.specs.Rooms.{frame_room, record_room};
+ghost use Rattle.trace_form.specs.Capacities.{frame_capacity, record_capacity};
 ghost use Rattle.voice_unit.specs.RunOfVoice.{outs_of};
 ghost use Rattle.chip_form.specs.Limits.{max_samples_of_batch};
 ghost use Rattle.chip_form.specs.Samples.{AddsSamples};
@@ -86,8 +86,8 @@ pub fn play_recorded_batch(
 )
     requires batch { IsBatch samples.now }
     requires settings { settings.now ≡ settings_of state.old.registers state.old.muted }
-    requires frame_room { length frames.old + samples.now.n ≤ frame_room }
-    requires record_room { length records.old + 8 * samples.now.n ≤ record_room }
+    requires frame_capacity { length frames.old + samples.now.n ≤ frame_capacity }
+    requires record_capacity { length records.old + 8 * samples.now.n ≤ record_capacity }
     ensures made { let made = batch_by_rows samples.now state.old memory.old in
         AddsSamples mask made state.new memory.new frames.old frames.new records.old records.new }
 {

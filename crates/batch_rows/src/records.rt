@@ -2,7 +2,7 @@
 
 ghost use Rattle.std.specs.Prelude.{◌≡◌, ◌≤◌, ◌<◌, ◌+◌, ◌++◌, ◌∷◌, [], length};
 ghost use Rattle.std.specs.List.{filter};
-ghost use Rattle.trace_form.specs.Rooms.{record_room};
+ghost use Rattle.trace_form.specs.Capacities.{record_capacity};
 ghost use Rattle.chip_form.specs.Samples.{in_mask};
 ghost use Rattle.dsp_state.specs.Sample.{records_from};
 
@@ -12,7 +12,7 @@ use voice_unit::VoiceOut;
 
 /// Adds the record of voice `v`, where its bit is in the mask.
 fn push_record(records: &mut Records, mask: u8, sample: u32, v: u8, answer: &VoiceOut)
-    requires room { length records.old < record_room }
+    requires room { length records.old < record_capacity }
     requires v { v < 8 }
     ensures records { records.new ≡ records.old ++ filter (in_mask mask) (records_from sample v (answer.now ∷ [])) }
     ensures count { length records.new ≤ length records.old + 1 }
@@ -32,7 +32,7 @@ fn push_record(records: &mut Records, mask: u8, sample: u32, v: u8, answer: &Voi
 
 /// Adds the records of the voices in the mask, in the order of the voices.
 pub fn push_records(records: &mut Records, mask: u8, sample: u32, answers: &[VoiceOut; 8])
-    requires { length records.old + 8 ≤ record_room }
+    requires { length records.old + 8 ≤ record_capacity }
     ensures records { records.new ≡ records.old ++ filter (in_mask mask) (records_from sample 0 answers.now) }
     ensures count { length records.new ≤ length records.old + 8 }
 {

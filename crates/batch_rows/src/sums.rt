@@ -18,7 +18,7 @@ fn high_product(out: i16, factor: i16) -> i16
 }
 
 /// A sum with the share of an output at a volume whose product with 512 is the factor: one multiplication of 16-bit numbers.
-fn with_soft_share(sum: i16, out: i16, factor: i16) -> i16
+fn with_share_at_small_volume(sum: i16, out: i16, factor: i16) -> i16
     ensures { (volume : ℤ) → factor ≡ volume *ℤ pos 512 → result ≡ clamp16 (sum +ℤ scaled out volume 7) }
 {
     add_clamped(sum, high_product(out, factor))
@@ -36,20 +36,20 @@ fn factors_of(volume: i16) -> [i16; BATCH_SIZE]
 
 /// Adds the shares of a voice at a volume from -64 to 63. Inlined, since only there the rows are known to lie apart.
 #[inline(always)]
-fn add_soft_row(sums: &mut [i16; BATCH_SIZE], outs: &[i16; BATCH_SIZE], volume: i16)
+fn add_row_at_small_volume(sums: &mut [i16; BATCH_SIZE], outs: &[i16; BATCH_SIZE], volume: i16)
     requires least { neg_ℤ (pos 64) ≤ℤ volume }
     requires most { volume <ℤ pos 64 }
     ensures { HasShares outs.now volume sums.old sums.new }
 {
     let factors = factors_of(volume);
     for j in 0..BATCH_SIZE {
-        sums[j] = with_soft_share(sums[j], outs[j], factors[j]);
+        sums[j] = with_share_at_small_volume(sums[j], outs[j], factors[j]);
     }
 }
 
 /// A sum with the share of an output at a volume from 64 on: the output, less its share at what the volume lacks to 128, whose
 /// product with -512 is the factor.
-fn with_strong_share(sum: i16, out: i16, factor: i16) -> i16
+fn with_share_at_large_volume(sum: i16, out: i16, factor: i16) -> i16
     ensures { (less : ℤ) → factor ≡ less *ℤ pos 512 → unsigned_abs (less +ℤ pos 128) < 128
         → result ≡ clamp16 (sum +ℤ scaled out (less +ℤ pos 128) 7) }
 {
@@ -58,20 +58,21 @@ fn with_strong_share(sum: i16, out: i16, factor: i16) -> i16
 
 /// Adds the shares of a voice at a volume from 64 to 127. Inlined, as those of smaller volumes.
 #[inline(always)]
-fn add_strong_row(sums: &mut [i16; BATCH_SIZE], outs: &[i16; BATCH_SIZE], volume: i16)
+fn add_row_at_large_volume(sums: &mut [i16; BATCH_SIZE], outs: &[i16; BATCH_SIZE], volume: i16)
     requires least { pos 64 ≤ℤ volume }
     requires most { volume <ℤ pos 128 }
     ensures { HasShares outs.now volume sums.old sums.new }
 {
     let factors = factors_of(volume - 128);
     for j in 0..BATCH_SIZE {
-        sums[j] = with_strong_share(sums[j], outs[j], factors[j]);
+        sums[j] = with_share_at_large_volume(sums[j], outs[j], factors[j]);
     }
 }
 
-/// Adds the shares of a voice at any volume. Out of line, since few volumes want it.
+/// Adds the shares of a voice at any volume, also below -64 and from 128 on, whose factor doesn't fit 16 bits. Out of line, since such
+/// volumes are rare.
 #[inline(never)]
-fn add_loud_row(sums: &mut [i16; BATCH_SIZE], outs: &[i16; BATCH_SIZE], volume: i16)
+fn add_row_at_any_volume(sums: &mut [i16; BATCH_SIZE], outs: &[i16; BATCH_SIZE], volume: i16)
     ensures { HasShares outs.now volume sums.old sums.new }
 {
     for j in 0..BATCH_SIZE {
@@ -94,7 +95,7 @@ fn are_limited(sums: &[i16; BATCH_SIZE])
 }
 
 /// Leaves the sums as they are, as shares at volume 0 do. Nothing runs.
-fn add_silent_row(sums: &[i16; BATCH_SIZE], outs: &[i16; BATCH_SIZE])
+fn add_row_at_volume_0(sums: &[i16; BATCH_SIZE], outs: &[i16; BATCH_SIZE])
     ensures { HasShares outs.now (pos 0) sums.now sums.now }
 {
     are_limited(sums);
@@ -114,13 +115,13 @@ fn add_row(sums: &mut [i16; BATCH_SIZE], outs: &[i16; BATCH_SIZE], volume: i16)
     ensures { HasShares outs.now volume sums.old sums.new }
 {
     if volume == 0 {
-        add_silent_row(sums, outs);
+        add_row_at_volume_0(sums, outs);
     } else if volume < -64 || 128 <= volume {
-        add_loud_row(sums, outs, volume);
+        add_row_at_any_volume(sums, outs, volume);
     } else if volume < 64 {
-        add_soft_row(sums, outs, volume);
+        add_row_at_small_volume(sums, outs, volume);
     } else {
-        add_strong_row(sums, outs, volume);
+        add_row_at_large_volume(sums, outs, volume);
     }
 }
 

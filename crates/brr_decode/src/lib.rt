@@ -2,14 +2,14 @@
 #![tactic(auto)]
 
 mod block;
-mod block_memory;
+mod block_cache;
+mod cached_block;
 mod digit;
 mod laws;
-mod remembered;
 mod stream;
 
 pub use block::{decode_block, decode_group};
-pub use block_memory::BrrCache;
+pub use block_cache::BrrCache;
 pub use digit::{has_end, has_loop, kept_sample};
 pub use laws::each_sample_is_kept;
 pub use std::alloc::AllocError as OutOfMemory;

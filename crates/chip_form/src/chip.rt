@@ -6,7 +6,7 @@ ghost use Rattle.chip_form.specs.ChipMeaning.{ChipMeaning};
 ghost use Rattle.chip_form.specs.ChipSaving.{ChipSaving};
 ghost use Rattle.chip_form.specs.ChipLaws.{IsLawfulChip};
 ghost use Rattle.chip_form.specs.SavingLaws.{IsLawfulSaving};
-ghost use Rattle.trace_form.specs.Rooms.{frame_room, record_room};
+ghost use Rattle.trace_form.specs.Capacities.{frame_capacity, record_capacity};
 ghost use Rattle.chip_form.specs.Limits.{max_samples_of_batch, max_samples_of_chip};
 
 use aram_core::Aram;
@@ -65,8 +65,8 @@ pub trait Chip: Drop {
         records: &mut Records,
     )
         requires few { n ≤ max_samples_of_batch }
-        requires frame_room { length frames.old + n ≤ frame_room }
-        requires record_room { length records.old + 8 * n ≤ record_room }
+        requires frame_capacity { length frames.old + n ≤ frame_capacity }
+        requires record_capacity { length records.old + 8 * n ≤ record_capacity }
         requires number { sample self.old + n ≤ max_samples_of_chip }
         ensures made { let made = samples meaning.one_sample n (sample self.old) (state self.old) memory.old in
             AddsSamples mask made (state self.new) memory.new frames.old frames.new records.old records.new }

@@ -13,14 +13,14 @@ help_text =
     codes "  spcwave brr IN OUT: decode BRR blocks to a WAV file\n" ++
     codes "  spcwave encode WAV BRR [--loop] [--loop-at SAMPLE] [--search WIDTH]: encode a WAV file to BRR blocks\n" ++
     codes "  spcwave demo NUMBER OUT: make a tune from a number\n" ++
-    codes "  spcwave check NUMBER: render that tune for ten seconds, and tell sums over its frames\n" ++
+    codes "  spcwave check NUMBER: render that tune for ten seconds, and print sums over its frames\n" ++
     codes "  spcwave asm IN ORIGIN OUT: assemble a program of the SPC700\n" ++
     codes "  spcwave dis IN ORIGIN OUT: list a program of the SPC700\n" ++
     codes "  spcwave rip SPC PREFIX [--range AABB]: write the samples of a tune to WAV files\n" ++
     codes "  spcwave cuts SPC TABLE LIST WAV [--mute HH]: join the cuts of a tune that a list says\n" ++
     codes "  spcwave serve SPC TABLE SCRIPT WAV [--pages N] [--mute HH]: seek, play, mark and drop in a tune as a script says\n" ++
-    codes "  spcwave help: tell this; --help does so too\n" ++
-    codes "  spcwave version: tell the number of the version; --version does so too\n" ++
+    codes "  spcwave help: print this text; --help does so too\n" ++
+    codes "  spcwave version: print the number of the version; --version does so too\n" ++
     codes "\n" ++
     codes "The manual page spcwave(1) and docs/FORMATS.md describe files, texts and exit statuses.\n"
 

@@ -24,14 +24,14 @@ spcwave renders SPC music files to WAV files. Its commands:\n\
 \x20 spcwave brr IN OUT: decode BRR blocks to a WAV file\n\
 \x20 spcwave encode WAV BRR [--loop] [--loop-at SAMPLE] [--search WIDTH]: encode a WAV file to BRR blocks\n\
 \x20 spcwave demo NUMBER OUT: make a tune from a number\n\
-\x20 spcwave check NUMBER: render that tune for ten seconds, and tell sums over its frames\n\
+\x20 spcwave check NUMBER: render that tune for ten seconds, and print sums over its frames\n\
 \x20 spcwave asm IN ORIGIN OUT: assemble a program of the SPC700\n\
 \x20 spcwave dis IN ORIGIN OUT: list a program of the SPC700\n\
 \x20 spcwave rip SPC PREFIX [--range AABB]: write the samples of a tune to WAV files\n\
 \x20 spcwave cuts SPC TABLE LIST WAV [--mute HH]: join the cuts of a tune that a list says\n\
 \x20 spcwave serve SPC TABLE SCRIPT WAV [--pages N] [--mute HH]: seek, play, mark and drop in a tune as a script says\n\
-\x20 spcwave help: tell this; --help does so too\n\
-\x20 spcwave version: tell the number of the version; --version does so too\n\
+\x20 spcwave help: print this text; --help does so too\n\
+\x20 spcwave version: print the number of the version; --version does so too\n\
 \n\
 The manual page spcwave(1) and docs/FORMATS.md describe files, texts and exit statuses.\n\
 ";

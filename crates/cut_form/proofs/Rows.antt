@@ -1,4 +1,4 @@
--- Worked rows of the definitions, over pages that are given.
+-- Worked examples of the definitions, over given pages.
 use Rattle.std.specs.Prelude.{◌≡◌, ℕ, nat_lt, if◌then◌else◌, List, [], ◌∷◌, length, replicate, slice_set, Ok, Err, codes}
 use Rattle.std.proofs.Common.{refl}
 use Rattle.cut_form.specs.declared.cut.Cut.{Cut}

@@ -9,7 +9,7 @@ pub mod Placing
 pub mod Removing
 pub mod Renders
 pub mod Restarting
-pub mod Rooms
+pub mod RoomForOne
 pub mod SameTune
 pub mod Serving
 pub mod Shared

@@ -5,7 +5,7 @@ use Rattle.std.proofs.lemmas.List.{append_assoc, append-nil}
 use Rattle.cut_form.specs.TextLines.{said_before}
 use Rattle.cut_text.specs.declared.refusal.TextRefusal.{TextRefusal}
 use Rattle.cut_text.specs.declared.refusal.TextRefusal.TheVariants.{Wrong, OutOfMemory}
-use Rattle.cut_text.specs.Reading.{Tells, OneMore, IsWrongAfter}
+use Rattle.cut_text.specs.Reading.{Reports, OneMore, IsWrongAfter}
 
 -- a list before what other lines say
 abbrev pub list_before : {A : Type 0} → List A → Result (List A) ℕ → Result (List A) ℕ
@@ -54,6 +54,6 @@ module _ {A : Type 0} {reads : List A → List (List ℕ) → Result (List A) �
 
   -- a refusal of the next line shows what all lines say
   pub tells_wrong : (old : List A) (line : List ℕ) (lines : List (List ℕ)) (said : Result (List A) ℕ) (refusal : TextRefusal) →
-      said ≡ said_after reads old (line ∷ lines) → IsWrongAfter old (next old line) refusal → Tells refusal said
+      said ≡ said_after reads old (line ∷ lines) → IsWrongAfter old (next old line) refusal → Reports refusal said
   tells_wrong old line lines said (Wrong number) is wrong = is ∙ ap (list_before old) (reader.stops old line lines wrong.0) ∙ ap Err (sym wrong.1)
   tells_wrong old line lines said OutOfMemory is wrong = tt

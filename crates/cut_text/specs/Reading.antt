@@ -9,9 +9,9 @@ abbrev pub number_bound : ℕ
 number_bound = 10 ^ max_digits
 
 -- a refusal for a wrong line has the number of the first one
-abbrev pub Tells : {A : Type 0} → TextRefusal → Result A ℕ → Type 0
-Tells (Wrong line) said = said ≡ Err line
-Tells OutOfMemory said = Unit {0}
+abbrev pub Reports : {A : Type 0} → TextRefusal → Result A ℕ → Type 0
+Reports (Wrong line) said = said ≡ Err line
+Reports OutOfMemory said = Unit {0}
 
 -- a list has what the next line says too
 abbrev pub OneMore : {A : Type 0} → (old new : List A) → Option A → Type 0

@@ -5,7 +5,7 @@ ghost use Rattle.cut_form.specs.TextLines.{line_words};
 ghost use Rattle.cut_form.specs.CutList.{max_cuts, cut_of_numbers, cut_of_words, cut_list};
 ghost use Rattle.cut_form.specs.Slices.{cut_samples};
 ghost use Rattle.cut_text.specs.Cuts.{EndWithinHour, next_cut, fits_after};
-ghost use Rattle.cut_text.specs.Reading.{Tells, OneMore, IsWrongAfter, number_bound};
+ghost use Rattle.cut_text.specs.Reading.{Reports, OneMore, IsWrongAfter, number_bound};
 
 use crate::lines::{first_line, number_in};
 use crate::{TextRefusal, add};
@@ -118,7 +118,7 @@ fn cut_in(line: &[u8]) -> Option<Cut>
 /// Reads the cuts that a text lists, one a line: the first sample and, after one space, how many frames.
 pub fn read_cuts(alloc: Global, text: &[u8]) -> Result<CutList, TextRefusal>
     ensures cuts { IfOk result (λ cuts. cut_list text.now ≡ Ok cuts) }
-    ensures wrong { IfErr result (λ refusal. Tells refusal (cut_list text.now)) }
+    ensures wrong { IfErr result (λ refusal. Reports refusal (cut_list text.now)) }
 {
     let mut list = CutList::new(alloc);
     let mut rest = text;

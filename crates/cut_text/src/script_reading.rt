@@ -6,7 +6,7 @@ ghost use Rattle.num_fix.specs.Limits.{max_frames};
 ghost use Rattle.cut_form.specs.declared.script.ScriptLine.TheVariants as lines;
 ghost use Rattle.cut_form.specs.TextLines.{line_words};
 ghost use Rattle.cut_form.specs.Script.{line_of_words, script_lines};
-ghost use Rattle.cut_text.specs.Reading.{Tells};
+ghost use Rattle.cut_text.specs.Reading.{Reports};
 ghost use Rattle.cut_text.specs.Playing.{IsWithinHour};
 
 use crate::lines::{first_line, number_in};
@@ -86,7 +86,7 @@ pub(crate) fn line_in(line: &[u8]) -> Option<ScriptLine>
 /// Reads the lines of a script: `seek N`, `play N`, `mark`, `drop N` or `free`.
 pub fn read_script(alloc: Global, text: &[u8]) -> Result<ScriptLines, TextRefusal>
     ensures lines { IfOk result (λ lines. script_lines text.now ≡ Ok lines) }
-    ensures wrong { IfErr result (λ refusal. Tells refusal (script_lines text.now)) }
+    ensures wrong { IfErr result (λ refusal. Reports refusal (script_lines text.now)) }
 {
     let mut list = ScriptLines::new(alloc);
     let mut rest = text;

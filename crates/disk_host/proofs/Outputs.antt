@@ -6,9 +6,9 @@ use Rattle.std.specs.Io.KnownBytes.{Keeps, WriteAppends}
 use Rattle.snd_host.specs.Host.{IsOpen}
 use Rattle.disk_host.specs.Texts.{Texts}
 use Rattle.disk_host.specs.Created.{max_created, is_ended, flags_of, known_or, known_at, known_of}
-use Rattle.disk_host.specs.Held.{Tells}
+use Rattle.disk_host.specs.Held.{Reports}
 use Rattle.disk_host.specs.declared.host.Created.{Created}
-use Rattle.disk_host.proofs.Places.{told_last, told_before, keeps_before}
+use Rattle.disk_host.proofs.Places.{known_last, known_before, keeps_before}
 
 less : (place : ℕ) → suc (suc place) - 2 ≡ place
 less place = omega arith
@@ -34,19 +34,19 @@ module _ {F : Type 0} (number : F → ℕ) where
   number_last places now output n is long =
       let place : n + 2 - 2 ≡ length places = omega (arith, long) in
       number_at now (n + 2) (λ none. omega (arith, none)) (λ one. omega (arith, one)) ∙ ap (λ (p : ℕ). known_at number 0 now p) place
-      ∙ ap (λ (l : List (Option (Created F))). known_at number 0 l (length places)) is ∙ told_last number 0 places output
+      ∙ ap (λ (l : List (Option (Created F))). known_at number 0 l (length places)) is ∙ known_last number 0 places output
 
   pub outputs_but : (old new : List (Option (Created F))) (slot : Option (Created F)) → new ≡ old ++ slot ∷ [] → (output : ℕ) → output ≢ length (flags_of old) + 2 → known_of number 0 0 1 new output ≡ known_of number 0 0 1 old output
   outputs_but old new slot is zero apart = refl
   outputs_but old new slot is (suc zero) apart = refl
   outputs_but old new slot is (suc (suc place)) apart =
-      ap (λ (l : List (Option (Created F))). known_at number 0 l place) is ∙ told_before number 0 old slot place (λ same. apart (omega (arith, same, length-map old is_ended)))
+      ap (λ (l : List (Option (Created F))). known_at number 0 l place) is ∙ known_before number 0 old slot place (λ same. apart (omega (arith, same, length-map old is_ended)))
 
 -- what the output of a number holds, by the texts of report and complaint and the places of the others
-abbrev held_in : {F : Type 0} → Tells F → Texts → List (Option (Created F)) → (output : ℕ) → Option (List ℕ)
+abbrev held_in : {F : Type 0} → Reports F → Texts → List (Option (Created F)) → (output : ℕ) → Option (List ℕ)
 held_in files texts places output = known_of files None texts.report texts.complaint places output
 
-pub writes_place : {F X : Type 0} (files : Tells F) (before after : Texts) (piece : List ℕ) (old new : List (Option (Created F))) (result : Result ℕ X) (file place : ℕ) → file ≢ 0 → file ≢ 1 →
+pub writes_place : {F X : Type 0} (files : Reports F) (before after : Texts) (piece : List ℕ) (old new : List (Option (Created F))) (result : Result ℕ X) (file place : ℕ) → file ≢ 0 → file ≢ 1 →
     place ≡ file - 2 → WriteAppends (known_at files None old place) (known_at files None new place) result piece → ((other : ℕ) → other ≢ place → known_at files None new other ≡ known_at files None old other) →
     after ≡ before → WriteAppends (held_in files before old file) (held_in files after new file) result piece × ((other : ℕ) → other ≢ file → held_in files after new other ≡ held_in files before old other)
 writes_place files before after piece old new result zero place not_report not_note at wrote others same = absurd (not_report refl)
@@ -62,7 +62,7 @@ writes_place {F} files before after piece old new result (suc (suc p)) place not
     by (suc (suc other)) apart = others other (λ is. apart (ap (λ (n : ℕ). suc (suc n)) (is ∙ at ∙ less p)))
 
 -- a write to the report
-pub writes_report : {F X : Type 0} (files : Tells F) (before after : Texts) (piece : List ℕ) (places : List (Option (Created F))) (result : Result ℕ X) (file : ℕ) → file ≡ 0 → WriteAppends before.report after.report result piece →
+pub writes_report : {F X : Type 0} (files : Reports F) (before after : Texts) (piece : List ℕ) (places : List (Option (Created F))) (result : Result ℕ X) (file : ℕ) → file ≡ 0 → WriteAppends before.report after.report result piece →
     after.complaint ≡ before.complaint → WriteAppends (held_in files before places file) (held_in files after places file) result piece × ((other : ℕ) → other ≢ file → held_in files after places other ≡ held_in files before places other)
 writes_report {F} files before after piece places result zero is wrote same = (wrote, by)
   where
@@ -73,7 +73,7 @@ writes_report {F} files before after piece places result zero is wrote same = (w
 writes_report files before after piece places result (suc file) is wrote same = absurd (omega (arith, is))
 
 -- and to the complaint
-pub writes_complaint : {F X : Type 0} (files : Tells F) (before after : Texts) (piece : List ℕ) (places : List (Option (Created F))) (result : Result ℕ X) (file : ℕ) → file ≡ 1 → WriteAppends before.complaint after.complaint result piece →
+pub writes_complaint : {F X : Type 0} (files : Reports F) (before after : Texts) (piece : List ℕ) (places : List (Option (Created F))) (result : Result ℕ X) (file : ℕ) → file ≡ 1 → WriteAppends before.complaint after.complaint result piece →
     after.report ≡ before.report → WriteAppends (held_in files before places file) (held_in files after places file) result piece × ((other : ℕ) → other ≢ file → held_in files after places other ≡ held_in files before places other)
 writes_complaint files before after piece places result zero is wrote same = absurd (omega (arith, is))
 writes_complaint {F} files before after piece places result (suc zero) is wrote same = (wrote, by)
@@ -89,13 +89,13 @@ keeps_equal None now same = tt
 keeps_equal (Some bytes) now same = rw (same) refl
 
 -- one output more
-pub holds_stay : {F : Type 0} (files : Tells F) (before after : Texts) (old new : List (Option (Created F))) (slot : Option (Created F)) → new ≡ old ++ slot ∷ [] → after ≡ before → (output : ℕ) → Keeps (held_in files before old output) (held_in files after new output)
+pub holds_stay : {F : Type 0} (files : Reports F) (before after : Texts) (old new : List (Option (Created F))) (slot : Option (Created F)) → new ≡ old ++ slot ∷ [] → after ≡ before → (output : ℕ) → Keeps (held_in files before old output) (held_in files after new output)
 holds_stay files before after old new slot is same zero = keeps_equal _ _ (ap (λ (t : Texts). t.report) same)
 holds_stay files before after old new slot is same (suc zero) = keeps_equal _ _ (ap (λ (t : Texts). t.complaint) same)
 holds_stay files before after old new slot is same (suc (suc place)) = rw (is) (keeps_before files old slot place)
 
 -- an output whose end was tried
-pub holds_on : {F : Type 0} (files : Tells F) (before after : Texts) (old new : List (Option (Created F))) → ((place : ℕ) → Keeps (known_at files None old place) (known_at files None new place)) → after ≡ before →
+pub holds_on : {F : Type 0} (files : Reports F) (before after : Texts) (old new : List (Option (Created F))) → ((place : ℕ) → Keeps (known_at files None old place) (known_at files None new place)) → after ≡ before →
     (output : ℕ) → Keeps (held_in files before old output) (held_in files after new output)
 holds_on files before after old new keeps same zero = keeps_equal _ _ (ap (λ (t : Texts). t.report) same)
 holds_on files before after old new keeps same (suc zero) = keeps_equal _ _ (ap (λ (t : Texts). t.complaint) same)
@@ -113,17 +113,17 @@ pub room_left : (n : ℕ) (full : Bool) → n ≤ 256 → full ≡ (n == 256) �
 room_left n full few is not_yet = grind (arith, nat_tests)
 
 -- nothing changed
-pub holds_same : {F : Type 0} (files : Tells F) (before after : Texts) (old new : List (Option (Created F))) → new ≡ old → after ≡ before → (output : ℕ) → Keeps (held_in files before old output) (held_in files after new output)
+pub holds_same : {F : Type 0} (files : Reports F) (before after : Texts) (old new : List (Option (Created F))) → new ≡ old → after ≡ before → (output : ℕ) → Keeps (held_in files before old output) (held_in files after new output)
 holds_same files before after old new same_places same_texts output = keeps_equal _ _ (λ i. held_in files (same_texts i) (same_places i) output)
 
-pub keeps_input : {F : Type 0} (left : Tells F) (old new : Option F) → new ≡ old → Keeps (known_or left None old) (known_or left None new)
+pub keeps_input : {F : Type 0} (left : Reports F) (old new : Option F) → new ≡ old → Keeps (known_or left None old) (known_or left None new)
 keeps_input left old new same = keeps_equal _ _ (ap (λ o. known_or left None o) same)
 
 pub same_outputs : {F : Type 0} (number : F → ℕ) (old new : List (Option (Created F))) → new ≡ old → (output : ℕ) → known_of number 0 0 1 new output ≡ known_of number 0 0 1 old output
 same_outputs number old new same output = λ i. known_of number 0 0 1 (same i) output
 
 -- a write that leaves the places
-pub on_places : {F X : Type 0} (files : Tells F) (before after : Texts) (piece : List ℕ) (places now : List (Option (Created F))) (result : Result ℕ X) (file : ℕ) → now ≡ places →
+pub on_places : {F X : Type 0} (files : Reports F) (before after : Texts) (piece : List ℕ) (places now : List (Option (Created F))) (result : Result ℕ X) (file : ℕ) → now ≡ places →
     WriteAppends (held_in files before places file) (held_in files after places file) result piece × ((other : ℕ) → other ≢ file → held_in files after places other ≡ held_in files before places other) →
     WriteAppends (held_in files before places file) (held_in files after now file) result piece × ((other : ℕ) → other ≢ file → held_in files after now other ≡ held_in files before places other)
 on_places {F} files before after piece places now result file same wrote =

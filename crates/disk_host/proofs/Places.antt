@@ -26,44 +26,44 @@ pub unset_again : (flags : List Bool) (place : ℕ) (ended : Bool) → slice_get
 unset_again flags place ended open_yet is =
     ap (λ (b : Bool). set flags place b) (is ∙ sym (get_or_from_slice_get flags place false false open_yet)) ∙ set-get_or flags place false
 
-module _ {F T : Type 0} (tells : F → T) (otherwise : T) where
+module _ {F T : Type 0} (reports : F → T) (otherwise : T) where
   abbrev known : Option (Option (Created F)) → T
-  known = known_or (known_or (λ output. tells output.file) otherwise) otherwise
+  known = known_or (known_or (λ output. reports output.file) otherwise) otherwise
 
-  pub told_here : (places : List (Option (Created F))) (place : ℕ) (output : Created F) → slice_get places place ≡ Some (Some output) → known_at tells otherwise places place ≡ tells output.file
-  told_here places place output is = ap known is
+  pub known_here : (places : List (Option (Created F))) (place : ℕ) (output : Created F) → slice_get places place ≡ Some (Some output) → known_at reports otherwise places place ≡ reports output.file
+  known_here places place output is = ap known is
 
-  pub told_after : (places : List (Option (Created F))) (place : ℕ) (before after : Created F) → slice_get places place ≡ Some (Some before) →
-      known_at tells otherwise (set places place (Some after)) place ≡ tells after.file
-  told_after [] place before after is = absurd (cc)
-  told_after (p ∷ places) zero before after is = refl
-  told_after (p ∷ places) (suc place) before after is = told_after places place before after is
+  pub known_after : (places : List (Option (Created F))) (place : ℕ) (before after : Created F) → slice_get places place ≡ Some (Some before) →
+      known_at reports otherwise (set places place (Some after)) place ≡ reports after.file
+  known_after [] place before after is = absurd (cc)
+  known_after (p ∷ places) zero before after is = refl
+  known_after (p ∷ places) (suc place) before after is = known_after places place before after is
 
-  pub told_other : (places : List (Option (Created F))) (place : ℕ) (slot : Option (Created F)) (other : ℕ) → other ≢ place →
-      known_at tells otherwise (set places place slot) other ≡ known_at tells otherwise places other
-  told_other [] place slot other apart = refl
-  told_other (p ∷ places) zero slot zero apart = absurd (apart refl)
-  told_other (p ∷ places) zero slot (suc other) apart = refl
-  told_other (p ∷ places) (suc place) slot zero apart = refl
-  told_other (p ∷ places) (suc place) slot (suc other) apart = told_other places place slot other (λ same. apart (ap suc same))
+  pub known_other : (places : List (Option (Created F))) (place : ℕ) (slot : Option (Created F)) (other : ℕ) → other ≢ place →
+      known_at reports otherwise (set places place slot) other ≡ known_at reports otherwise places other
+  known_other [] place slot other apart = refl
+  known_other (p ∷ places) zero slot zero apart = absurd (apart refl)
+  known_other (p ∷ places) zero slot (suc other) apart = refl
+  known_other (p ∷ places) (suc place) slot zero apart = refl
+  known_other (p ∷ places) (suc place) slot (suc other) apart = known_other places place slot other (λ same. apart (ap suc same))
 
-  pub told_kept : (places : List (Option (Created F))) (place : ℕ) (before after : Created F) → slice_get places place ≡ Some (Some before) → tells after.file ≡ tells before.file → (other : ℕ) →
-      known_at tells otherwise (set places place (Some after)) other ≡ known_at tells otherwise places other
-  told_kept [] place before after is same other = refl
-  told_kept (p ∷ places) zero before after is same zero = same ∙ sym (ap known is)
-  told_kept (p ∷ places) zero before after is same (suc other) = refl
-  told_kept (p ∷ places) (suc place) before after is same zero = refl
-  told_kept (p ∷ places) (suc place) before after is same (suc other) = told_kept places place before after is same other
+  pub known_kept : (places : List (Option (Created F))) (place : ℕ) (before after : Created F) → slice_get places place ≡ Some (Some before) → reports after.file ≡ reports before.file → (other : ℕ) →
+      known_at reports otherwise (set places place (Some after)) other ≡ known_at reports otherwise places other
+  known_kept [] place before after is same other = refl
+  known_kept (p ∷ places) zero before after is same zero = same ∙ sym (ap known is)
+  known_kept (p ∷ places) zero before after is same (suc other) = refl
+  known_kept (p ∷ places) (suc place) before after is same zero = refl
+  known_kept (p ∷ places) (suc place) before after is same (suc other) = known_kept places place before after is same other
 
-  pub told_last : (places : List (Option (Created F))) (output : Created F) → known_at tells otherwise (places ++ Some output ∷ []) (length places) ≡ tells output.file
-  told_last [] output = refl
-  told_last (p ∷ places) output = told_last places output
+  pub known_last : (places : List (Option (Created F))) (output : Created F) → known_at reports otherwise (places ++ Some output ∷ []) (length places) ≡ reports output.file
+  known_last [] output = refl
+  known_last (p ∷ places) output = known_last places output
 
-  pub told_before : (places : List (Option (Created F))) (slot : Option (Created F)) (other : ℕ) → other ≢ length places → known_at tells otherwise (places ++ slot ∷ []) other ≡ known_at tells otherwise places other
-  told_before [] slot zero apart = absurd (apart refl)
-  told_before [] slot (suc other) apart = refl
-  told_before (p ∷ places) slot zero apart = refl
-  told_before (p ∷ places) slot (suc other) apart = told_before places slot other (λ same. apart (ap suc same))
+  pub known_before : (places : List (Option (Created F))) (slot : Option (Created F)) (other : ℕ) → other ≢ length places → known_at reports otherwise (places ++ slot ∷ []) other ≡ known_at reports otherwise places other
+  known_before [] slot zero apart = absurd (apart refl)
+  known_before [] slot (suc other) apart = refl
+  known_before (p ∷ places) slot zero apart = refl
+  known_before (p ∷ places) slot (suc other) apart = known_before places slot other (λ same. apart (ap suc same))
 
 pub keeps_same : (known : Option (List ℕ)) → Keeps known known
 keeps_same None = tt
@@ -73,7 +73,7 @@ pub keeps_at : {F : Type 0} (held : F → Option (List ℕ)) (places : List (Opt
     slice_get places place ≡ Some (Some before) → Keeps (held before.file) (held after.file) → (other : ℕ) →
     Keeps (known_at held None places other) (known_at held None (set places place (Some after)) other)
 keeps_at held [] place before after is keeps other = absurd (cc)
-keeps_at held (p ∷ places) zero before after is keeps zero = rw (told_here held None (p ∷ places) zero before is) keeps
+keeps_at held (p ∷ places) zero before after is keeps zero = rw (known_here held None (p ∷ places) zero before is) keeps
 keeps_at held (p ∷ places) zero before after is keeps (suc other) = keeps_same (known_at held None places other)
 keeps_at held (p ∷ places) (suc place) before after is keeps zero = keeps_same (known_at held None (p ∷ places) zero)
 keeps_at held (p ∷ places) (suc place) before after is keeps (suc other) = keeps_at held places place before after is keeps other

@@ -46,28 +46,28 @@ pub record FailsUnasked {D F T E : Type 0} (calls : D → List Call) (old new : 
   pub unasked : calls new.disk ≡ calls old.disk
 
 -- how a file shows the bytes that it holds, or those that it has left, where it knows them
-abbrev pub Tells : Type 0 → Type 0
-Tells F = F → Option (List ℕ)
+abbrev pub Reports : Type 0 → Type 0
+Reports F = F → Option (List ℕ)
 
 -- what is known of the output of a number: 0 is the report, 1 the complaint
-abbrev pub held_by : {D F : Type 0} → Tells F → (D → Texts) → DiskHost D F → (number : ℕ) → Option (List ℕ)
+abbrev pub held_by : {D F : Type 0} → Reports F → (D → Texts) → DiskHost D F → (number : ℕ) → Option (List ℕ)
 held_by files texts host number = known_of files None (texts host.disk).report (texts host.disk).complaint host.kept.created.items number
 
 -- The bytes that were read are the next ones of the current input, and none come only at its end.
-abbrev pub ReadsOn : {D F X : Type 0} → Tells F → (buf : List ℕ) → (old new : DiskHost D F) → Result ℕ X → Type 0
+abbrev pub ReadsOn : {D F X : Type 0} → Reports F → (buf : List ℕ) → (old new : DiskHost D F) → Result ℕ X → Type 0
 ReadsOn left buf old new result = ReadConsumes (known_or left None old.kept.input) (known_or left None new.kept.input) result buf
 
 -- The bytes that were taken of a piece come after those that the output of a number held, and every other output holds what it held.
-pub record WritesOn {D F X : Type 0} (files : Tells F) (texts : D → Texts) (number : ℕ) (piece : List ℕ)
+pub record WritesOn {D F X : Type 0} (files : Reports F) (texts : D → Texts) (number : ℕ) (piece : List ℕ)
     (old new : DiskHost D F) (result : Result ℕ X) : Type 0 where
   pub added : WriteAppends (held_by files texts old number) (held_by files texts new number) result piece
   pub others : (other : ℕ) → other ≢ number → held_by files texts new other ≡ held_by files texts old other
 
 -- Every output holds the bytes that it held.
-abbrev pub HoldsStay : {D F : Type 0} → Tells F → (D → Texts) → (old new : DiskHost D F) → Type 0
+abbrev pub HoldsStay : {D F : Type 0} → Reports F → (D → Texts) → (old new : DiskHost D F) → Type 0
 HoldsStay files texts old new =
     (number : ℕ) → Keeps (held_by files texts old number) (held_by files texts new number)
 
 -- What is left of the current input stays: none of its bytes is eaten.
-abbrev pub InputStays : {D F : Type 0} → Tells F → (old new : DiskHost D F) → Type 0
+abbrev pub InputStays : {D F : Type 0} → Reports F → (old new : DiskHost D F) → Type 0
 InputStays left old new = Keeps (known_or left None old.kept.input) (known_or left None new.kept.input)

@@ -3,7 +3,7 @@ use Rattle.std.proofs.Common.{◌≡◌, ℕ, zero, suc, ◌+◌, ◌-◌, ◌*�
 use Rattle.std.specs.List.{filter}
 use Rattle.std.proofs.lemmas.List.{append-nil}
 use Rattle.num_fix.specs.declared.Frame.{Frame}
-use Rattle.trace_form.specs.Rooms.{frame_room, record_room}
+use Rattle.trace_form.specs.Capacities.{frame_capacity, record_capacity}
 use Rattle.trace_form.specs.declared.record.Record.{Record}
 use Rattle.dsp_state.specs.Sample.{sample}
 use Rattle.dsp_state.specs.Settings.{settings_of}
@@ -61,14 +61,14 @@ settings_of-samples (suc n) k s memory = settings_of-sample (k + n) (samples sam
 
 -- the rest of n samples has room where all of them had
 pub frames_fit : (frames before : List Frame) (n made k : ℕ) (s : ChipState) (memory : List ℕ) → frames ≡ before ++ (samples sample made k s memory).frames
-    → length before + n ≤ frame_room → made < n → length frames + (n - made) ≤ frame_room
+    → length before + n ≤ frame_capacity → made < n → length frames + (n - made) ≤ frame_capacity
 frames_fit frames before n made k s memory are room some =
     let long : length frames ≡ length before + length (samples sample made k s memory).frames = ap (λ (fs : List Frame). length fs) are ∙ length-append before (samples sample made k s memory).frames in
     let count : length (samples sample made k s memory).frames ≡ made = frame_count_of_samples sample made k s memory in
     omega (arith, long, count, room, some)
 
 pub records_fit : (records before : List Record) (mask n made k : ℕ) (s : ChipState) (memory : List ℕ) → is_valid s ≡ true
-    → records ≡ before ++ filter (in_mask mask) (samples sample made k s memory).records → length before + 8 * n ≤ record_room → made < n → length records + 8 * (n - made) ≤ record_room
+    → records ≡ before ++ filter (in_mask mask) (samples sample made k s memory).records → length before + 8 * n ≤ record_capacity → made < n → length records + 8 * (n - made) ≤ record_capacity
 records_fit records before mask n made k s memory valid are room some =
     let more : List Record = filter (in_mask mask) (samples sample made k s memory).records in
     let long : length records ≡ length before + length more = ap (λ (rs : List Record). length rs) are ∙ length-append before more in

@@ -2,7 +2,7 @@
 
 ghost use Rattle.std.specs.Prelude.{◌≡◌, ◌≤◌, ◌<◌, ◌+◌, ◌*◌, ◌==◌, true, false, length, IfOk, if◌then◌else◌, ℕ, List};
 ghost use Rattle.std.specs.FinSet as set;
-ghost use Rattle.trace_form.specs.Rooms.{frame_room, record_room};
+ghost use Rattle.trace_form.specs.Capacities.{frame_capacity, record_capacity};
 ghost use Rattle.chip_form.specs.Limits.{max_samples_of_chip, max_samples_of_batch};
 ghost use Rattle.chip_form.specs.Samples.{AddsSamples, AddsSample, count_after};
 ghost use Rattle.dsp_state.specs.Settings.{settings_of};
@@ -19,7 +19,7 @@ use crate::sample::make_sample;
 use crate::saved::DspState;
 use aram_core::Aram;
 use batch_rows::{
-    BatchSamples, PlayedBatch, is_echo_apart, is_echo_apart_from_afar, play_batch,
+    BatchSamples, PlayedBatch, is_echo_apart, is_echo_surely_apart, play_batch,
     play_recorded_batch, push_records, samples_apart,
 };
 use dsp_state::registers::{ENDX, KON};
@@ -116,8 +116,8 @@ impl Dsp {
         self.state.registers[usize::from(addr % 0x80)]
     }
 
-    /// Writes a register. Any byte clears ENDX, and a write of KON lets its key-ons wait for the next
-    /// poll in place of those that waited. From 80h on a write has no effect.
+    /// Writes a register. Any byte clears ENDX, and a write of KON makes its key-ons pending until the next
+    /// poll, in place of those that were. From 80h on a write has no effect.
     #[tactic(auto, unfolding(dsp_state::specs::Outside::register_write))]
     pub fn reg_write(&mut self, addr: u8, value: u8)
         ensures { self.new ≡ record self.old { state = register_write self.old.state addr value } }
@@ -156,8 +156,8 @@ impl Dsp {
         answers: &mut [VoiceOut; 8],
     )
         requires settings { settings.now ≡ settings_of self.old.state.registers self.old.state.muted }
-        requires frame_room { length frames.old < frame_room }
-        requires record_room { length records.old + 8 ≤ record_room }
+        requires frame_capacity { length frames.old < frame_capacity }
+        requires record_capacity { length records.old + 8 ≤ record_capacity }
         requires number { self.old.sample < max_samples_of_chip }
         ensures made { AddsSample mask (next_sample self.old memory.old) self.new.state memory.new frames.old frames.new records.old records.new }
         ensures chip { self.new ≡ record self.old { state = self.new.state; sample = self.old.sample + 1 } }
@@ -188,8 +188,8 @@ impl Dsp {
         records: &mut Records,
     )
         requires settings { settings.now ≡ settings_of self.old.state.registers self.old.state.muted }
-        requires frame_room { length frames.old + n ≤ frame_room }
-        requires record_room { length records.old + 8 * n ≤ record_room }
+        requires frame_capacity { length frames.old + n ≤ frame_capacity }
+        requires record_capacity { length records.old + 8 * n ≤ record_capacity }
         requires number { self.old.sample + n ≤ max_samples_of_chip }
         ensures made { AddsSamples mask (next_samples n self.old memory.old) self.new.state memory.new frames.old frames.new records.old records.new }
         ensures chip { self.new ≡ record self.old { state = self.new.state; sample = self.old.sample + n } }
@@ -205,7 +205,7 @@ impl Dsp {
         requires settings { settings.now ≡ settings_of self.old.state.registers self.old.state.muted }
         requires some { 0 < n }
         requires few { n ≤ max_samples_of_batch }
-        requires frame_room { length frames.old + n ≤ frame_room }
+        requires frame_capacity { length frames.old + n ≤ frame_capacity }
         requires number { self.old.sample + n ≤ max_samples_of_chip }
         requires apart { VoicesReadTheSame n self.old.sample self.old.state memory.old }
         ensures made { AddsFrames (next_samples n self.old memory.old) self.new.state memory.new frames.old frames.new }
@@ -238,8 +238,8 @@ impl Dsp {
         requires settings { settings.now ≡ settings_of self.old.state.registers self.old.state.muted }
         requires some { 0 < n }
         requires few { n ≤ max_samples_of_batch }
-        requires frame_room { length frames.old + n ≤ frame_room }
-        requires record_room { length records.old + 8 * n ≤ record_room }
+        requires frame_capacity { length frames.old + n ≤ frame_capacity }
+        requires record_capacity { length records.old + 8 * n ≤ record_capacity }
         requires number { self.old.sample + n ≤ max_samples_of_chip }
         requires apart { VoicesReadTheSame n self.old.sample self.old.state memory.old }
         ensures made { AddsSamples mask (next_samples n self.old memory.old) self.new.state memory.new frames.old frames.new records.old records.new }
@@ -270,8 +270,8 @@ impl Dsp {
         if n < MIN_ROWS {
             return 0;
         }
-        let far = is_echo_apart_from_afar(&self.state, memory);
-        if far {
+        let surely = is_echo_surely_apart(&self.state, memory);
+        if surely {
             return n;
         }
         let apart = samples_apart(&self.state, memory, n);
@@ -295,8 +295,8 @@ impl Dsp {
         requires settings { settings.now ≡ settings_of self.old.state.registers self.old.state.muted }
         requires some { 0 < n }
         requires few { n ≤ max_samples_of_batch }
-        requires frame_room { length frames.old + n ≤ frame_room }
-        requires record_room { length records.old + 8 * n ≤ record_room }
+        requires frame_capacity { length frames.old + n ≤ frame_capacity }
+        requires record_capacity { length records.old + 8 * n ≤ record_capacity }
         requires number { self.old.sample + n ≤ max_samples_of_chip }
         ensures some { 0 < result }
         ensures few { result ≤ n }
@@ -329,8 +329,8 @@ impl Dsp {
         records: &mut Records,
     )
         requires few { n ≤ max_samples_of_batch }
-        requires frame_room { length frames.old + n ≤ frame_room }
-        requires record_room { length records.old + 8 * n ≤ record_room }
+        requires frame_capacity { length frames.old + n ≤ frame_capacity }
+        requires record_capacity { length records.old + 8 * n ≤ record_capacity }
         requires number { self.old.sample + n ≤ max_samples_of_chip }
         ensures made { AddsSamples mask (next_samples n self.old memory.old) self.new.state memory.new frames.old frames.new records.old records.new }
         ensures sample { self.new.sample ≡ self.old.sample + n }

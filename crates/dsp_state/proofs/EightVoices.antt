@@ -14,7 +14,7 @@ length-map : (results : List VoiceResult) → length (map (λ (one : VoiceResult
 length-map [] = refl
 length-map (one ∷ results) = ap suc (length-map results)
 
--- the poll leaves a part of the state alone that has neither waiting nor taken key-ons
+-- the poll leaves a part of the state alone that has neither pending nor latched key-ons
 pub polled_part : {X : Type 0} (part : ChipState → X) (b : Bool) (s : ChipState) (kon_pending : ℕ)
     → part (record s { hidden = record s.hidden { kon_pending = kon_pending; kon_latched = kon_pending } }) ≡ part s
     → part (if b then record s { hidden = record s.hidden { kon_pending = kon_pending; kon_latched = kon_pending } } else s) ≡ part s

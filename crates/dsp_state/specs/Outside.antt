@@ -6,7 +6,7 @@ use Rattle.rate_clock.specs.Noise.{noise_at}
 use Rattle.dsp_state.specs.declared.registers.TheConstants.{KON, ENDX}
 use Rattle.dsp_state.specs.declared.state.ChipState.{ChipState}
 
--- the state at the opening, over a table and with these voices muted: the key-ons of the register wait, and no key, sample or
+-- the state at the opening, over a table and with these voices muted: the key-ons of the register are pending, and no key, sample or
 -- echo is left from before
 unfoldable pub opened_state : (registers : List ℕ) → (table : List ℤ) → (muted : ℕ) → ChipState
 opened_state registers table muted = record {
@@ -26,8 +26,8 @@ opened_state registers table muted = record {
 unfoldable pub register_read : ChipState → (address : ℕ) → ℕ
 register_read s address = slice_index s.registers (address % 0x80)
 
--- A write stores its byte, but ENDX is cleared by any byte. A write of KON also lets its key-ons wait in place of those
--- that waited. From 80h on nothing is written.
+-- A write stores its byte, but ENDX is cleared by any byte. A write of KON also makes its key-ons pending in place of
+-- those that were. From 80h on nothing is written.
 unfoldable pub register_write : ChipState → (address byte : ℕ) → ChipState
 register_write s address byte =
     if nat_le 0x80 address then s

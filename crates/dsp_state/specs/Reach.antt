@@ -23,7 +23,7 @@ abbrev pub entries_from : (registers : List ℕ) → (v : ℕ) → List VoiceSta
 entries_from registers v [] = []
 entries_from registers v (voice ∷ voices) = voice_entry registers v ∷ entries_from registers (v + 1) voices
 
--- voice v can go to the start of its sample: its key-on waits, or it still has its key-on delay
+-- voice v can go to the start of its sample: its key-on is pending, or it still has its key-on delay
 abbrev pub can_start : ChipState → (v : ℕ) → VoiceState → Bool
 can_start s v voice = has_bit s.hidden.kon_pending v || not (voice.delay == 0)
 

@@ -23,7 +23,7 @@ use Rattle.dsp_state.specs.declared.voice_settings.SharedByVoices.{SharedByVoice
 abbrev pub is_polled : (k : ℕ) → Bool
 is_polled k = k % 2 == 0
 
--- A sample that polls the keys: the waiting key-ons lose those taken at the last poll, and what remains is taken.
+-- A sample that polls the keys: the pending key-ons lose those latched at the last poll, and the rest is latched.
 unfoldable pub after_poll : ChipState → (k : ℕ) → ChipState
 after_poll s k =
     let kon_pending = without_bits s.hidden.kon_pending s.hidden.kon_latched in

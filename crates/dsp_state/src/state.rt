@@ -9,9 +9,9 @@ use voice_unit::Voice;
 /// What the chip keeps beside its registers.
 #[derive(Clone, Copy, Debug)]
 pub struct Hidden {
-    /// The key-ons that wait for a poll.
+    /// The key-ons that are pending until a poll.
     pub kon_pending: u8,
-    /// The key-ons that the last poll took.
+    /// The key-ons that the last poll latched.
     pub kon_latched: u8,
     pub noise: Noise,
     pub voices: [Voice; 8],

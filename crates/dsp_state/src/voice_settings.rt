@@ -22,7 +22,7 @@ pub struct VoiceSettings {
 pub struct SharedByVoices {
     /// The noise, at most 7FFFh.
     pub noise: u16,
-    /// The key-ons that the last poll took.
+    /// The key-ons that the last poll latched.
     pub kon_latched: u8,
     /// The keys are polled in this sample.
     pub is_poll: bool,

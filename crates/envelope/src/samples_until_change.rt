@@ -1,4 +1,4 @@
-//! For how long an envelope rests: its steps leave it as it is.
+//! How many samples an envelope stays as it is.
 
 ghost use Rattle.std.specs.Prelude.{◌≡◌, ◌<◌, ◌+◌, ℕ, Some};
 ghost use Rattle.rate_clock.specs.Counter.{counter_at};
@@ -9,12 +9,12 @@ use crate::target::{Target, step_target, sustain_level};
 use crate::{Envelope, nearest_level, next_mode};
 use rate_clock::RateClock;
 
-/// As good as for ever.
+/// More samples than a batch has: the envelope never changes.
 const NEVER: u16 = u16::MAX;
 
 impl Envelope {
-    /// For how many samples the envelope rests on this target of its steps, from the clock's on: until the rate fires,
-    /// where a step changes neither mode nor hidden value, and for ever where it has the target's level too.
+    /// How many samples the envelope stays as it is under this target of its steps, from the clock's on: until the rate fires,
+    /// where a step changes neither mode nor hidden value, and `NEVER` where it has the target's level too.
     fn samples_until_change_on(
         &self,
         target: &Target,
@@ -44,7 +44,7 @@ impl Envelope {
         clock.until_fires(target.rate)
     }
 
-    /// For how many samples the envelope rests, from the clock's on: for ever, or the step after them changes it.
+    /// How many samples the envelope stays as it is, from the clock's on: the step after them changes it, unless it never changes.
     pub fn samples_until_change(&self, adsr1: u8, adsr2: u8, gain: u8, clock: &RateClock) -> u16
         ensures unchanged { (k : ℕ) → clock.now ≡ counter_at k → StaysFor self.now adsr1 adsr2 gain k result }
         ensures then_changes { (k : ℕ) → clock.now ≡ counter_at k → result < never_changes → ChangesAt self.now adsr1 adsr2 gain (k + result) }

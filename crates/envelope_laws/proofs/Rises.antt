@@ -10,7 +10,7 @@ use Rattle.envelope.specs.declared.Mode.TheVariants.{Attack, Decay, Sustain, Rel
 use Rattle.envelope.specs.Envelope.{EnvelopeState, attack_target, is_level, slope_value, step_target, sustain_level, next_mode, nearest_level, after_target, envelope_step}
 use Rattle.envelope.specs.Steps.{envelope_after}
 use Rattle.envelope.proofs.Still.{mode_after, hidden_after, level_after}
-use Rattle.envelope_laws.specs.Course.{ReleaseFalls, ReleaseEnds, FastAttackTime, LinearRiseTime, BentRiseTime}
+use Rattle.envelope_laws.specs.ManySteps.{ReleaseFalls, ReleaseEnds, FastAttackTime, LinearRiseTime, BentRiseTime}
 use Rattle.envelope_laws.proofs.Targets.{fires-31, attack-aims, slope-aims, bent_value, fast_attack_rises, gain_rises}
 
 -- one sample of a release

@@ -1,7 +1,7 @@
 // Laws of the envelope, one step or several.
 ghost use Rattle.envelope_laws.specs.OneStep.{FastAttackRises, AttackRises, DecayFalls, SustainFalls, LevelIsSet, GainFalls, GainFallsBent};
 ghost use Rattle.envelope_laws.specs.OneStep.{GainRises, GainRisesBent, GainRisesSlowly, StaysWithin};
-ghost use Rattle.envelope_laws.specs.Course.{ReleaseFalls, ReleaseEnds, FastAttackTime, LinearRiseTime, BentRiseTime};
+ghost use Rattle.envelope_laws.specs.ManySteps.{ReleaseFalls, ReleaseEnds, FastAttackTime, LinearRiseTime, BentRiseTime};
 
 /// Attack under ADSR rises by 400h in each sample with rate Fh, and else by 20h where its rate fires, up to 7FFh.
 pub fn attack_rises()

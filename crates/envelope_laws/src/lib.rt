@@ -1,4 +1,4 @@
-//! That the envelope moves as the document says it in words: how it rises and falls, and how long that takes.
+//! Laws of the envelope, which moves as the document says in words: how it rises and falls, and how long that takes.
 #![tactic(auto)]
 
 mod laws;

@@ -11,7 +11,7 @@ elements_of vec = vec.elements.items
 abbrev pub length_of : {T : Type 0} → FixedVec T → ℕ
 length_of vec = vec_len vec.elements
 
--- how many there is room for
+-- how many elements it can hold
 abbrev pub capacity_of : {T : Type 0} → FixedVec T → ℕ
 capacity_of vec = vec_capacity vec.elements
 

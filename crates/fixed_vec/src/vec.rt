@@ -18,7 +18,7 @@ impl<T> FixedVec<T> {
     ghost use Rattle.fixed_vec.specs.FixedVec.{elements_of, length_of, capacity_of};
     ghost use Rattle.fixed_vec.specs.Lends.{lends_element};
 
-    /// An empty vector with room for so many elements.
+    /// An empty vector with the capacity for so many elements.
     pub fn with_capacity(alloc: Global, capacity: usize) -> Result<FixedVec<T>, OutOfMemory>
         ensures empty { IfOk result (λ vec. elements_of vec ≡ []) }
         ensures capacity { IfOk result (λ vec. capacity_of vec ≡ capacity) }

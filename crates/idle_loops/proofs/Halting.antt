@@ -13,7 +13,7 @@ use Rattle.spc700_exec.specs.Operands.{addressed, both_addressed, loaded, stored
 use Rattle.spc700_exec.specs.Operations.{Operation, operation_of, OnStatus, OnA, OnYa, Branch, BitBranch, CompareBranch, CountBranch, Move, Calculate, Compare, Modify, BitToCarry, BitInPlace, BitTest, WordOnYa, WordStore, WordModify, Push, Pop, Jump, Call, TableCall, Break, Return, InterruptReturn, Halt}
 use Rattle.spc700_exec.specs.Lines.{branch_end}
 use Rattle.spc700_exec.specs.Instruction.{line_of, step_unless, script}
-use Rattle.idle_loops.specs.Looking.{HaltsToSample}
+use Rattle.idle_loops.specs.ReadOnly.{HaltsToSample}
 
 on_addressed : (form : Form) (cpu : Cpu) (next : Operand → Cpu → Script) → ((operand : Operand) (cpu : Cpu) → HaltsToSample (next operand cpu)) → HaltsToSample (addressed form cpu next)
 on_addressed F.A cpu next h = h _ _

@@ -1,4 +1,4 @@
--- Steps that only look leave nothing but the cycles that they take, and so do iterations of them.
+-- Steps that only read leave nothing but the cycles that they take, and so do iterations of them.
 use Rattle.std.proofs.Common.{◌≡◌, ℕ, zero, suc, ◌+◌, ◌-◌, ◌*◌, ◌≤◌, Bool, true, false, nat_lt, refl, sym, ap, ◌∙◌, subst, arith, Option, Some, None}
 use Rattle.std.specs.Prelude.{if◌then◌else◌}
 use Rattle.std.proofs.lemmas.Bool.Decides.{nat_tests}
@@ -9,7 +9,7 @@ use Rattle.spc700_exec.specs.Script.{Script, Read, Write, End, Cycles, ToSample,
 use Rattle.spc700_exec.specs.Instruction.{script, step_outcome}
 use Rattle.spc700_exec.specs.Length.{IsShort}
 use Rattle.spc700_exec.proofs.Short.{IsShort-script}
-use Rattle.idle_loops.specs.Looking.{then_if, peek_of_script, peek_of_steps, after_n_steps, IsWaiting}
+use Rattle.idle_loops.specs.ReadOnly.{then_if, peek_of_script, peek_of_steps, after_n_steps, IsOnlyRead}
 use Rattle.spc700_exec.specs.declared.bus.TheConstants.{CYCLES_PER_SAMPLE}
 
 -- what was there where something follows it
@@ -31,7 +31,7 @@ peek_of_script-least sees (End end (Cycles n)) made cpu cycles h =
     omega arith
 peek_of_script-least sees (End end ToSample) made cpu cycles h = absurd (cc)
 
-module _ {S : Type 0} (bus : BusMeaning S) (bare : S → S) (sees : ℕ → Option ℕ) (most : ℕ) (waited : ℕ → S) (law : IsWaiting bus bare sees most waited) where
+module _ {S : Type 0} (bus : BusMeaning S) (bare : S → S) (sees : ℕ → Option ℕ) (most : ℕ) (waited : ℕ → S) (law : IsOnlyRead bus bare sees most waited) where
   -- these registers, and a bus that waited so long
   abbrev Waited : Cpu → (n : ℕ) → Cpu × S → Type 0
   Waited cpu n w = (w.0 ≡ cpu) × (bare w.1 ≡ bare (waited n))
@@ -80,7 +80,7 @@ module _ {S : Type 0} (bus : BusMeaning S) (bare : S → S) (sees : ℕ → Opti
       waited-outcome (script w.0) 6 (bus.clock w.1) base 0 w.1 cpu cycles (IsShort-script w.0) (so.1 ∙ ap (λ (n : ℕ). bare (waited n)) start)
       (ap (λ (c : Cpu). peek_of_script sees 0 (script c)) so.0 ∙ h) fits
 
-  -- n steps that only look
+  -- n steps that only read
   pub waited-steps : (n base : ℕ) (w : Cpu × S) (before cpu : Cpu) (cycles : ℕ) → Waited before base w
       → peek_of_steps sees n before ≡ Some (cpu, cycles) → base + cycles ≤ most → Waited cpu (base + cycles) (after_n_steps bus n w)
   unfolding peek_of_steps after_n_steps

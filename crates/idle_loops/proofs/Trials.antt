@@ -1,4 +1,4 @@
--- What a step shows over a bus that only looks.
+-- What a step shows over a read-only bus.
 use Rattle.std.proofs.Common.{◌≡◌, ℕ, suc, ◌+◌, ◌-◌, Bool, true, false, ◌&&◌, nat_lt, refl, sym, ap, ◌∙◌, arith, Option, Some, None}
 use Rattle.std.proofs.lemmas.Bool.{and_parts, both_ways}
 use Rattle.std.specs.Prelude.{if◌then◌else◌, unwrap_or, is_some}
@@ -7,7 +7,7 @@ use Rattle.spc700_exec.specs.declared.cpu.Cpu.{Cpu}
 use Rattle.spc700_exec.specs.Bus.{byte_read, after_read, after_write}
 use Rattle.spc700_exec.specs.Script.{Script, Read, Write, End, Cycles, ToSample, cycles_at, outcome}
 use Rattle.spc700_exec.specs.Instruction.{script, step_outcome}
-use Rattle.idle_loops.specs.Looking.{then_if, peek_of_script, peek_of_steps, Peek, peek_meaning, HaltsToSample}
+use Rattle.idle_loops.specs.ReadOnly.{then_if, peek_of_script, peek_of_steps, Peek, peek_meaning, HaltsToSample}
 use Rattle.idle_loops.proofs.Halting.{HaltsToSample-script}
 
 -- what is seen is what a read answers
@@ -52,7 +52,7 @@ module _ {L : Type 0} (sees : L → ℕ → Option ℕ) where
       λ i. Some (cpu, cycles i)
   peek_of_script-outcome (End cpu ToSample) start base made s halts e idle runs = absurd (both_ways cpu.halted runs halts)
 
-  -- a step from clock 0 that only looked, and didn't halt
+  -- a step from clock 0 that only read, and didn't halt
   pub peek_of_script-step : (cpu next : Cpu) (s t : Peek L) → (next, t) ≡ step_outcome (peek_meaning sees) cpu s → s.clock ≡ 0 → t.idle ≡ true → next.halted ≡ false
       → peek_of_script (sees s.from) 0 (script cpu) ≡ Some (next, t.clock)
   peek_of_script-step cpu next s t does start idle runs =

@@ -1,2 +1,2 @@
--- Looking: what steps do whose reads only look, over any bus.
-pub mod Looking
+-- ReadOnly: what steps do that only read, over any bus.
+pub mod ReadOnly

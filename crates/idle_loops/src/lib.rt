@@ -1,4 +1,4 @@
-//! Iterations of a loop that only wait: steps of the processor that only look, over any bus.
+//! Iterations of a loop that only wait: steps of the processor that only read, over any bus.
 #![tactic(auto)]
 
 mod laws;

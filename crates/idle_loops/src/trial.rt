@@ -1,13 +1,13 @@
-// Trials of steps: what they would do if they only looked.
+// Trials of steps: what they do over a read-only bus.
 ghost use Rattle.std.specs.Prelude.{◌≡◌, ◌≤◌, ◌*◌, ℕ, Option, Some, IfSome};
 ghost use Rattle.std.proofs.Common.{refl};
 ghost use Rattle.spc700_exec.specs.Instruction.{script};
-ghost use Rattle.idle_loops.specs.Looking.{peek_of_script, peek_of_steps, peek_meaning};
+ghost use Rattle.idle_loops.specs.ReadOnly.{peek_of_script, peek_of_steps, peek_meaning};
 
 use spc700_exec::{Bus, CYCLES_PER_SAMPLE, Cpu, step};
 use std::marker::Model;
 
-/// Something that can be looked at: of some addresses a byte is seen, which a read there would answer.
+/// Something that can be read without a change of it: of some addresses a byte is seen, which a read there would answer.
 pub trait ReadOnlyBus {
     /// The byte that is seen at an address, if one is.
     ghost sees: { Self → ℕ → Option ℕ };
@@ -17,7 +17,7 @@ pub trait ReadOnlyBus {
         ensures { result ≡ sees self.now addr };
 }
 
-/// A bus that only looks: `idle` says whether each access so far was a read of an address at which a byte is seen.
+/// A read-only bus: `idle` says whether each access so far was a read of an address at which a byte is seen.
 #[derive(Drop)]
 struct Trial<'a, L: ReadOnlyBus> {
     peeks: &'a L,
@@ -31,7 +31,7 @@ impl<'a, L: ReadOnlyBus> Model for Trial<'a, L> {
     ghost use Rattle.std.specs.Coded.{codes};
     ghost use Rattle.spc700_exec.specs.declared.bus.TheConstants.{CYCLES_PER_SAMPLE};
     ghost use Rattle.spc700_exec.specs.Bus.{max_calls, max_samples_of_bus};
-    ghost use Rattle.idle_loops.specs.Looking.{Peek};
+    ghost use Rattle.idle_loops.specs.ReadOnly.{Peek};
 
     ghost Value = { Peek L };
 
@@ -77,7 +77,7 @@ impl<'a, L: ReadOnlyBus> Bus for Trial<'a, L> {
     } };
 }
 
-/// Tries a step, and gives its cycles if it only looks.
+/// Tries a step, and returns its cycles if it only reads.
 fn try_step<L: ReadOnlyBus>(peeks: &L, cpu: &mut Cpu) -> Option<u8>
     ensures step { IfSome result (λ cycles. peek_of_script (L.sees peeks.now) 0 (script cpu.old) ≡ Some (cpu.new, cycles)) }
     ensures few { IfSome result (λ cycles. (1 ≤ cycles) × (cycles ≤ CYCLES_PER_SAMPLE)) }
@@ -96,7 +96,7 @@ fn try_step<L: ReadOnlyBus>(peeks: &L, cpu: &mut Cpu) -> Option<u8>
     }
 }
 
-/// Tries the steps from some registers on, and gives the cycles of an iteration of them that only looks and brings the registers
+/// Tries the steps from some registers on, and returns the cycles of an iteration of them that only reads and brings the registers
 /// back: 1 to 256. Iterations of at most eight steps are tried. `None` may come at any time: no clause says when,
 /// and the steps of the iteration are then taken one by one.
 pub fn try_iteration<L: ReadOnlyBus>(peeks: &L, cpu: &Cpu) -> Option<u16>

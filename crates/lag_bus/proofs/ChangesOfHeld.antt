@@ -1,4 +1,4 @@
--- What a chip some samples late comes to, after each change of what is held.
+-- What a chip with deferred samples comes to, after each change of what is held.
 use Rattle.std.proofs.Common.{◌≡◌, ◌≢◌, if◌then◌else◌, nat_le, ℕ, zero, suc, ◌+◌, ◌-◌, ◌*◌, ◌<◌, ◌≤◌, List, [], ◌∷◌, ◌++◌, length, Bool, true, false, not, ◌||◌, ◌==◌, inl, inr, refl, ap, subst, sym, ◌∙◌, arith, rules, append_assoc, length-append}
 use Rattle.std.proofs.lemmas.Bool.{cases_Bool, or_parts, not-true}
 use Rattle.std.proofs.lemmas.Bool.Decides.{nat_tests}
@@ -19,8 +19,8 @@ use Rattle.lag_bus.specs.Merge.{merge}
 use Rattle.lock_step.specs.SampleNumbers.{sample_number}
 use Rattle.lag_bus.specs.Ready.{is_before_sample, ready_frames, waiting_frames, ready_records, waiting_records, NoneIsReady}
 use Rattle.lag_bus.specs.Book.{may_be_read, may_be_written}
-use Rattle.lag_bus.specs.Late.{late_with_sample}
-use Rattle.lag_bus.specs.Held.{Held, IsHeld, IsKnown, pending_samples, late_of}
+use Rattle.lag_bus.specs.Deferred.{deferred_with_sample}
+use Rattle.lag_bus.specs.Held.{Held, IsHeld, IsKnown, pending_samples, deferred_of}
 use Rattle.lag_bus.specs.declared.reach_cache.ReachCache.{ReachCache}
 use Rattle.chip_form.specs.declared.pages.ReachPages.{ReachPages}
 use Rattle.lag_bus.proofs.MergedRecords.{Each-append, Each-map, Each-filter, Each-merge, merge_voices, merge_event, merge_nothing, length-merge, number_before, later_before, event_after, voice_before, voice_after, voice_number, filter_all, filter_none}
@@ -106,21 +106,21 @@ module _ {S : Type 0} {chip : ChipMeaning S} (laws : IsLawfulChip chip) where
   module _ {h : Held S} (is : IsHeld chip h) where
     -- a byte and a register that the pending samples don't change
     pub late_get : (at : ℕ) → (h.pending == 0 || not (may_be_written (chip.reach h.state h.memory) at)) ≡ true
-        → byte_at h.memory at ≡ byte_at (late_of chip h).memory at
+        → byte_at h.memory at ≡ byte_at (deferred_of chip h).memory at
     late_get at free = sym (byte_stays h.pending h.number h.state h.memory at is.pending is.is_valid free)
 
     pub late_register : (address : ℕ) → (h.pending == 0 || not (chip.is_result address)) ≡ true
-        → chip.register_read h.state address ≡ chip.register_read (late_of chip h).chip address
+        → chip.register_read h.state address ≡ chip.register_read (deferred_of chip h).chip address
     late_register address free = sym (register_stays h.pending h.number h.state h.memory address is.pending is.is_valid free)
 
     -- a byte that they don't read
     pub late_put : (at value : ℕ) → (h.pending == 0 || not (may_be_read (chip.reach h.state h.memory) at)) ≡ true
-        → late_of chip (record h { memory = with_byte h.memory at value }) ≡
-        record (late_of chip h) { memory = with_byte (late_of chip h).memory at value; reach = chip.reach h.state (with_byte h.memory at value) }
+        → deferred_of chip (record h { memory = with_byte h.memory at value }) ≡
+        record (deferred_of chip h) { memory = with_byte (deferred_of chip h).memory at value; reach = chip.reach h.state (with_byte h.memory at value) }
     late_put at value free = rw (put_apart h.pending h.number h.state h.memory at value is.pending is.is_valid free) refl
 
     pub late_put_reach : (memory : List ℕ) → h.pending ≡ 0
-        → chip.reach h.state memory ≡ chip.reach (late_of chip (record h { memory = memory })).chip (late_of chip (record h { memory = memory })).memory
+        → chip.reach h.state memory ≡ chip.reach (deferred_of chip (record h { memory = memory })).chip (deferred_of chip (record h { memory = memory })).memory
     late_put_reach memory none = rw (none, samples_none) refl
 
     pub held_put : (memory : List ℕ) → IsHeld chip (record h { memory = memory })
@@ -147,8 +147,8 @@ module _ {S : Type 0} {chip : ChipMeaning S} (laws : IsLawfulChip chip) where
     ]
 
     -- one sample more that is pending
-    pub late_queue : late_of chip (record h { pending = h.pending + 1 }) ≡
-        late_with_sample chip (late_of chip h)
+    pub late_queue : deferred_of chip (record h { pending = h.pending + 1 }) ≡
+        deferred_with_sample chip (deferred_of chip h)
     late_queue =
         let before : SamplesResult S = pending_samples chip h in
         let made : SampleResult S = chip.one_sample (h.number + h.pending) before.state before.memory in
@@ -168,8 +168,8 @@ module _ {S : Type 0} {chip : ChipMeaning S} (laws : IsLawfulChip chip) where
 
     -- a register written while none is pending
     pub late_reg_write : (address byte : ℕ) → h.pending ≡ 0
-        → late_of chip (record h { state = chip.register_write h.state address byte }) ≡
-        record (late_of chip h) { chip = chip.register_write (late_of chip h).chip address byte; reach = chip.reach (chip.register_write (late_of chip h).chip address byte) (late_of chip h).memory }
+        → deferred_of chip (record h { state = chip.register_write h.state address byte }) ≡
+        record (deferred_of chip h) { chip = chip.register_write (deferred_of chip h).chip address byte; reach = chip.reach (chip.register_write (deferred_of chip h).chip address byte) (deferred_of chip h).memory }
     late_reg_write address byte none = rw none (simp samples_none refl)
 
     pub held_reg_write : (address byte : ℕ) → address < 0x100 → byte < 0x100 → IsHeld chip (record h { state = chip.register_write h.state address byte })
@@ -193,11 +193,11 @@ module _ {S : Type 0} {chip : ChipMeaning S} (laws : IsLawfulChip chip) where
 
     -- an event more, and a record more while none is pending
     pub late_event : (event : Record) → h.pending ≢ 0 → sample_number event ≡ h.number + h.pending
-        → late_of chip (record h { ring = h.ring ++ event ∷ [] }) ≡
-        record (late_of chip h) {
-          records = (late_of chip h).records ++ event ∷ [];
-          events = if h.pending == 0 then (late_of chip h).events else (late_of chip h).events + 1;
-          records_used = (late_of chip h).records_used + 1;
+        → deferred_of chip (record h { ring = h.ring ++ event ∷ [] }) ≡
+        record (deferred_of chip h) {
+          records = (deferred_of chip h).records ++ event ∷ [];
+          events = if h.pending == 0 then (deferred_of chip h).events else (deferred_of chip h).events + 1;
+          records_used = (deferred_of chip h).records_used + 1;
         }
     late_event event some now =
         let pends : (h.pending == 0) ≡ false = search rules in
@@ -208,11 +208,11 @@ module _ {S : Type 0} {chip : ChipMeaning S} (laws : IsLawfulChip chip) where
         rw (pends, merge_event voices h.ring event below, length-append h.ring (event ∷ []), used, append_assoc) refl
 
     pub late_emit : (item : Record) → h.pending ≡ 0
-        → late_of chip (record h { records = h.records ++ item ∷ [] }) ≡
-        record (late_of chip h) {
-          records = (late_of chip h).records ++ item ∷ [];
-          events = if h.pending == 0 then (late_of chip h).events else (late_of chip h).events + 1;
-          records_used = (late_of chip h).records_used + 1;
+        → deferred_of chip (record h { records = h.records ++ item ∷ [] }) ≡
+        record (deferred_of chip h) {
+          records = (deferred_of chip h).records ++ item ∷ [];
+          events = if h.pending == 0 then (deferred_of chip h).events else (deferred_of chip h).events + 1;
+          records_used = (deferred_of chip h).records_used + 1;
         }
     late_emit item none =
         let empty : h.ring ≡ [] = is.none_waits none in
@@ -220,7 +220,7 @@ module _ {S : Type 0} {chip : ChipMeaning S} (laws : IsLawfulChip chip) where
         rw (none, empty) (simp (samples_none, merge_nothing, append-nil, length-append, used) refl)
 
     -- with none pending the reach is that of what there is
-    pub late_reach : h.pending ≡ 0 → (late_of chip h).reach ≡ chip.reach (late_of chip h).chip (late_of chip h).memory
+    pub late_reach : h.pending ≡ 0 → (deferred_of chip h).reach ≡ chip.reach (deferred_of chip h).chip (deferred_of chip h).memory
     late_reach none = rw (none, samples_none) refl
 
     frames_count : length (h.frames ++ (pending_samples chip h).frames) ≡ length h.frames + h.pending
@@ -229,7 +229,7 @@ module _ {S : Type 0} {chip : ChipMeaning S} (laws : IsLawfulChip chip) where
     pub voices_fit : length (filter (in_mask h.mask) (pending_samples chip h).records) ≤ 8 * h.pending
     voices_fit = voices_of_mask chip laws h.pending h.mask h.number h.state h.memory is.is_valid
 
-    pub records_within : length (late_of chip h).records ≤ (late_of chip h).records_used
+    pub records_within : length (deferred_of chip h).records ≤ (deferred_of chip h).records_used
     records_within =
         omega (arith, length-append h.records (merge (filter (in_mask h.mask) (pending_samples chip h).records) h.ring), length-merge (filter (in_mask h.mask) (pending_samples chip h).records) h.ring, voices_fit)
 
@@ -254,19 +254,19 @@ module _ {S : Type 0} {chip : ChipMeaning S} (laws : IsLawfulChip chip) where
         }
 
     pub late_settled : (batches total : ℕ)
-        → late_of chip (held_after_settle chip batches total h) ≡
-        record (late_of chip h) {
+        → deferred_of chip (held_after_settle chip batches total h) ≡
+        record (deferred_of chip h) {
           pending = 0;
           events = 0;
-          reach = chip.reach (late_of chip h).chip (late_of chip h).memory;
+          reach = chip.reach (deferred_of chip h).chip (deferred_of chip h).memory;
           batches = batches;
           total = total;
-          records_used = length (late_of chip h).records;
+          records_used = length (deferred_of chip h).records;
         }
     late_settled batches total =
         let due : h.number + h.pending + 0 ≡ h.number + h.pending = omega arith in
         let frames : length (h.frames ++ (pending_samples chip h).frames) + 0 ≡ length h.frames + h.pending = omega (arith, frames_count) in
-        let records : length (late_of chip h).records + 0 + 8 * 0 ≡ length (late_of chip h).records = omega arith in
+        let records : length (deferred_of chip h).records + 0 + 8 * 0 ≡ length (deferred_of chip h).records = omega arith in
         rw (samples_none, due, frames) (simp (merge_nothing, append-nil, records) refl)
 
     -- nothing that is pending stands before the first pending sample
@@ -277,12 +277,12 @@ module _ {S : Type 0} {chip : ChipMeaning S} (laws : IsLawfulChip chip) where
         (Each-map (IsVoiceWithin h.number (h.number + h.pending)) (λ r. is_before_sample h.number r ≡ false) (voice_after h.number (h.number + h.pending)) voices pending_voices)
         (Each-map (λ e. h.number < sample_number e) (λ r. is_before_sample h.number r ≡ false) (event_after h.number) h.ring is.after_first)
 
-    drained_records : filter (is_before_sample h.number) (late_of chip h).records ≡ h.records
+    drained_records : filter (is_before_sample h.number) (deferred_of chip h).records ≡ h.records
     drained_records =
         let after = merge (filter (in_mask h.mask) (pending_samples chip h).records) h.ring in
         rw (filter-append (is_before_sample h.number) h.records after, filter_all (is_before_sample h.number) h.records is.made_before, filter_none (is_before_sample h.number) after pending_after) (append-nil h.records)
 
-    kept_records : filter (λ r. not (is_before_sample h.number r)) (late_of chip h).records ≡ merge (filter (in_mask h.mask) (pending_samples chip h).records) h.ring
+    kept_records : filter (λ r. not (is_before_sample h.number r)) (deferred_of chip h).records ≡ merge (filter (in_mask h.mask) (pending_samples chip h).records) h.ring
     kept_records =
         let after = merge (filter (in_mask h.mask) (pending_samples chip h).records) h.ring in
         let is_late : Record → Bool = λ r. not (is_before_sample h.number r) in
@@ -290,38 +290,38 @@ module _ {S : Type 0} {chip : ChipMeaning S} (laws : IsLawfulChip chip) where
         let all = filter_all is_late after (Each-map (λ r. is_before_sample h.number r ≡ false) (λ r. is_late r ≡ true) (opposite h.number false) after pending_after) in
         rw (filter-append is_late h.records after, none, all) refl
 
-    drained_frames : ready_frames h.pending (late_of chip h).frames ≡ h.frames
+    drained_frames : ready_frames h.pending (deferred_of chip h).frames ≡ h.frames
     drained_frames =
         let count : length (h.frames ++ (pending_samples chip h).frames) - h.pending ≡ length h.frames = omega (arith, frames_count) in
         rw count (take-append_seam h.frames (pending_samples chip h).frames)
 
-    kept_frames : waiting_frames h.pending (late_of chip h).frames ≡ (pending_samples chip h).frames
+    kept_frames : waiting_frames h.pending (deferred_of chip h).frames ≡ (pending_samples chip h).frames
     kept_frames =
         let count : length (h.frames ++ (pending_samples chip h).frames) - h.pending ≡ length h.frames = omega (arith, frames_count) in
         rw count (drop-append_seam h.frames (pending_samples chip h).frames)
 
     -- what a drain hands over and leaves
-    pub late_ready_frames : h.frames ≡ ready_frames h.pending (late_of chip h).frames
+    pub late_ready_frames : h.frames ≡ ready_frames h.pending (deferred_of chip h).frames
     late_ready_frames = sym drained_frames
 
-    pub late_ready_records : h.records ≡ ready_records (h.number + h.pending - h.pending) (late_of chip h).records
+    pub late_ready_records : h.records ≡ ready_records (h.number + h.pending - h.pending) (deferred_of chip h).records
     late_ready_records =
         let first : h.number + h.pending - h.pending ≡ h.number = omega arith in
         rw first (sym drained_records)
 
-    pub none_ready : h.frames ≡ [] → h.records ≡ [] → NoneIsReady h.pending (h.number + h.pending - h.pending) (late_of chip h).frames (late_of chip h).records
+    pub none_ready : h.frames ≡ [] → h.records ≡ [] → NoneIsReady h.pending (h.number + h.pending - h.pending) (deferred_of chip h).frames (deferred_of chip h).records
     none_ready frames records = record { no_frame = sym late_ready_frames ∙ frames; no_record = sym late_ready_records ∙ records }
 
-    pub ready_frames_none : NoneIsReady h.pending (h.number + h.pending - h.pending) (late_of chip h).frames (late_of chip h).records → h.frames ≡ []
+    pub ready_frames_none : NoneIsReady h.pending (h.number + h.pending - h.pending) (deferred_of chip h).frames (deferred_of chip h).records → h.frames ≡ []
     ready_frames_none none = late_ready_frames ∙ none.no_frame
 
-    pub ready_records_none : NoneIsReady h.pending (h.number + h.pending - h.pending) (late_of chip h).frames (late_of chip h).records → h.records ≡ []
+    pub ready_records_none : NoneIsReady h.pending (h.number + h.pending - h.pending) (deferred_of chip h).frames (deferred_of chip h).records → h.records ≡ []
     ready_records_none none = late_ready_records ∙ none.no_record
 
-    pub late_drained : late_of chip (record h { frames = []; records = [] }) ≡
-        record (late_of chip h) {
-          frames = waiting_frames h.pending (late_of chip h).frames;
-          records = waiting_records (h.number + h.pending - h.pending) (late_of chip h).records;
+    pub late_drained : deferred_of chip (record h { frames = []; records = [] }) ≡
+        record (deferred_of chip h) {
+          frames = waiting_frames h.pending (deferred_of chip h).frames;
+          records = waiting_records (h.number + h.pending - h.pending) (deferred_of chip h).records;
           frames_used = h.pending;
           records_used = length h.ring + 8 * h.pending;
         }
@@ -335,22 +335,22 @@ module _ {S : Type 0} {chip : ChipMeaning S} (laws : IsLawfulChip chip) where
     late_none_waits none = rw (none, samples_none, is.none_waits none) merge_nothing
 
     -- what is saved, and what a load leaves: the lists are empty, and so is the ring
-    pub late_chip : h.pending ≡ 0 → (late_of chip h).chip ≡ h.state
+    pub late_chip : h.pending ≡ 0 → (deferred_of chip h).chip ≡ h.state
     late_chip none = rw (none, samples_none) refl
 
-    pub late_due : h.pending ≡ 0 → (late_of chip h).due ≡ h.number
+    pub late_due : h.pending ≡ 0 → (deferred_of chip h).due ≡ h.number
     late_due none = rw none (omega arith)
 
-    pub late_memory : h.pending ≡ 0 → (late_of chip h).memory ≡ h.memory
+    pub late_memory : h.pending ≡ 0 → (deferred_of chip h).memory ≡ h.memory
     late_memory none = rw (none, samples_none) refl
 
-    held_frames : h.pending ≡ 0 → (late_of chip h).frames ≡ [] → h.frames ≡ []
+    held_frames : h.pending ≡ 0 → (deferred_of chip h).frames ≡ [] → h.frames ≡ []
     held_frames none empty = rw (none, samples_none, append-nil) at empty
 
-    held_records : h.pending ≡ 0 → (late_of chip h).records ≡ [] → h.records ≡ []
+    held_records : h.pending ≡ 0 → (deferred_of chip h).records ≡ [] → h.records ≡ []
     held_records none empty = rw (none, samples_none, is.none_waits none, merge_nothing, append-nil) at empty
 
-    pub held_loaded : (state : S) (number : ℕ) (memory : List ℕ) → h.pending ≡ 0 → (late_of chip h).frames ≡ [] → (late_of chip h).records ≡ []
+    pub held_loaded : (state : S) (number : ℕ) (memory : List ℕ) → h.pending ≡ 0 → (deferred_of chip h).frames ≡ [] → (deferred_of chip h).records ≡ []
         → chip.is_valid state ≡ true → number ≤ max_samples_of_chip
         → IsHeld chip (record h { state = state; number = number; memory = memory })
     held_loaded state number memory none frames records valid few =
@@ -366,14 +366,14 @@ module _ {S : Type 0} {chip : ChipMeaning S} (laws : IsLawfulChip chip) where
           records_fit = is.records_fit;
         }
 
-    pub late_loaded : (load : S → S) (number : ℕ) (memory : List ℕ) → h.pending ≡ 0 → (late_of chip h).frames ≡ [] → (late_of chip h).records ≡ []
-        → late_of chip (record h { state = load h.state; number = number; memory = memory }) ≡
-        record (late_of chip h) {
-          chip = load (late_of chip h).chip;
+    pub late_loaded : (load : S → S) (number : ℕ) (memory : List ℕ) → h.pending ≡ 0 → (deferred_of chip h).frames ≡ [] → (deferred_of chip h).records ≡ []
+        → deferred_of chip (record h { state = load h.state; number = number; memory = memory }) ≡
+        record (deferred_of chip h) {
+          chip = load (deferred_of chip h).chip;
           memory = memory;
           due = number;
           events = 0;
-          reach = chip.reach (load (late_of chip h).chip) memory;
+          reach = chip.reach (load (deferred_of chip h).chip) memory;
           frames_used = 0;
           records_used = 0;
         }

@@ -11,7 +11,7 @@ use Rattle.chip_form.proofs.OneMoreSample.{samples_none, samples_more}
 use Rattle.chip_form.specs.ChipMeaning.{ChipMeaning}
 use Rattle.lock_step.specs.LockStep.{crosses_sample, samples_due}
 use Rattle.lag_bus.specs.Lagging.{Lagging, lagging, with_book, HasNumbersOfBook}
-use Rattle.lag_bus.specs.Waiting.{with_fallen}
+use Rattle.lag_bus.specs.IdleCycles.{with_fallen}
 use Rattle.spc700_exec.specs.declared.bus.TheConstants.{CYCLES_PER_SAMPLE}
 
 -- with the numbers of its book it is the bus with that book

@@ -11,7 +11,7 @@ use Rattle.spc700_exec.specs.declared.cpu.Cpu.{Cpu}
 use Rattle.lag_bus.specs.LagLaws.{next_book}
 use Rattle.lock_step.specs.declared.counts.Counts.{Counts}
 use Rattle.lag_bus.specs.LagEmits.{lag_emits, without_items}
-use Rattle.lag_bus.specs.Late.{Late, late_with_samples}
+use Rattle.lag_bus.specs.Deferred.{Deferred, deferred_with_samples}
 use Rattle.lag_bus.specs.IsLagging.{lagging_of}
 use Rattle.lock_step.specs.Emits.{CountsOn}
 use Rattle.lock_step.specs.WaitOfIterations.{IsWaitOf}
@@ -20,9 +20,9 @@ use Rattle.lock_step.specs.Machine.{Machine}
 use Rattle.lock_step.specs.LockStep.{bus_answer, after_bus_read}
 use Rattle.lag_bus.specs.Book.{may_be_written, cause_of_read, after_cause}
 use Rattle.lag_bus.specs.Lagging.{Lagging, lagging, with_book}
-use Rattle.idle_loops.specs.Looking.{peek_of_steps, after_n_steps, IsWaiting}
+use Rattle.idle_loops.specs.ReadOnly.{peek_of_steps, after_n_steps, IsOnlyRead}
 use Rattle.ports_timers.specs.Zeros.{zeros_stay, counter_is_0, AreTimers}
-use Rattle.lag_bus.specs.Waiting.{only_peeks, byte_seen, samples_in, with_fallen, after_wait, without_calls, IsKept}
+use Rattle.lag_bus.specs.IdleCycles.{only_peeks, byte_seen, samples_in, with_fallen, after_wait, without_calls, IsKept}
 use Rattle.ports_timers.proofs.Stays.{read_answer-stays, after_read-stays}
 use Rattle.ports_timers.proofs.Fewer.{zeros_stay-less}
 use Rattle.lag_bus.proofs.PassesOfAWait.{pass-wait, wait-none}
@@ -33,14 +33,14 @@ if_some : (b : Bool) (x byte : ℕ) → (if b then Some x else None) ≡ Some by
 if_some true x byte h = (refl, cc)
 if_some false x byte h = absurd (cc)
 
--- what a read that only looks shows of its address
+-- what a peek shows of its address
 record IsPeek (bus_reach : Bool) (register : Bool) (counter : Bool) : Type 0 where
   free : bus_reach ≡ false
   elsewhere : register ≡ false
   zero : counter ≡ true
 
-look_of : (register written counter : Bool) → (not register && not written && counter) ≡ true → IsPeek written register counter
-look_of register written counter h =
+peek_of : (register written counter : Bool) → (not register && not written && counter) ≡ true → IsPeek written register counter
+peek_of register written counter h =
     let front : (not register && not written) ≡ true = (and_parts _ counter h).0 in
     record {
       free = not-true written (and_parts (not register) _ front).1;
@@ -63,7 +63,7 @@ module _ {S : Type 0} (chip : ChipMeaning S) where
     answer-wait : (n at : ℕ) → n ≤ most → only_peeks bus.book.reach bus.machine.io at ≡ true
         → bus_answer chip (after_wait chip bus n).machine at ≡ bus_answer chip bus.machine at
     answer-wait n at less peeks =
-        let peeked = look_of (at == 0xF3) (may_be_written bus.book.reach at) (counter_is_0 bus.machine.io at) peeks in
+        let peeked = peek_of (at == 0xF3) (may_be_written bus.book.reach at) (counter_is_0 bus.machine.io at) peeks in
         let few : bus.book.pending + samples_in bus.machine.clock n ≤ 64 = omega arith in
         let memory = kept.writes (samples_in bus.machine.clock n) at few peeked.free in
         let io = read_answer-stays at bus.machine.io bus.machine.clock n small (zeros_stay-less bus.machine.io bus.machine.clock n most less stay) peeked.zero in
@@ -77,15 +77,15 @@ module _ {S : Type 0} (chip : ChipMeaning S) where
     read-wait : (n at : ℕ) → n ≤ most → only_peeks bus.book.reach bus.machine.io at ≡ true
         → without_calls ((lagging chip).read (after_wait chip bus n) at).1 ≡ without_calls (after_wait chip bus n)
     read-wait n at less peeks =
-        let peeked = look_of (at == 0xF3) (may_be_written bus.book.reach at) (counter_is_0 bus.machine.io at) peeks in
+        let peeked = peek_of (at == 0xF3) (may_be_written bus.book.reach at) (counter_is_0 bus.machine.io at) peeks in
         let io = after_read-stays at bus.machine.io bus.machine.clock n small (zeros_stay-less bus.machine.io bus.machine.clock n most less stay) peeked.zero in
         let w = after_wait chip bus n in
         let none = no_cause w.machine.io.dsp_address at peeked.elsewhere peeked.free in
         (λ i. without_calls (with_book (after_bus_read w.machine at) (after_cause chip (none i) (after_bus_read w.machine at) w.book)))
         ∙ (λ i. without_calls (with_book (record w.machine { io = io i }) w.book))
 
-    pub is_waiting : IsWaiting (lagging chip) without_calls (byte_seen chip bus) most (after_wait chip bus)
-    is_waiting = record {
+    pub is_only_read : IsOnlyRead (lagging chip) without_calls (byte_seen chip bus) most (after_wait chip bus)
+    is_only_read = record {
       pass = λ s n cycles same some few fits. pass-wait chip bus s n cycles same few (omega arith);
       byte = λ s n at byte same less sees.
           let peeked = if_some (only_peeks bus.book.reach bus.machine.io at) (bus_answer chip bus.machine at) byte sees in
@@ -99,7 +99,7 @@ module _ {S : Type 0} (chip : ChipMeaning S) where
     pub iterations-wait : (k n d : ℕ) (cpu : Cpu) → peek_of_steps (byte_seen chip bus) n cpu ≡ Some (cpu, d) → k * d ≤ most
         → ((after_n_steps (lagging chip) (k * n) (cpu, bus)).0 ≡ cpu) × (without_calls (after_n_steps (lagging chip) (k * n) (cpu, bus)).1 ≡ without_calls (after_wait chip bus (k * d)))
     iterations-wait k n d cpu iteration fits =
-        waited-iterations (lagging chip) without_calls (byte_seen chip bus) most (after_wait chip bus) is_waiting k n d (cpu, bus) cpu (refl, wait-none chip bus kept) iteration fits
+        waited-iterations (lagging chip) without_calls (byte_seen chip bus) most (after_wait chip bus) is_only_read k n d (cpu, bus) cpu (refl, wait-none chip bus kept) iteration fits
 
   counts-waited : (clock cycles pending total new_clock new_pending new_total : ℕ) → new_clock ≡ clock + cycles → new_pending ≡ pending + samples_in clock cycles → new_total ≡ total
       → CountsOn (clock / CYCLES_PER_SAMPLE) pending total (new_clock / CYCLES_PER_SAMPLE) new_pending new_total
@@ -126,30 +126,30 @@ module _ {S : Type 0} (chip : ChipMeaning S) where
       }
 
   -- what a bus shows with some samples more that are pending, at a later moment of the clock
-  pub lagging_of-fallen : (late : Late S) (io there : Io) (counts : Counts) (calls now clock later fallen : ℕ) → late.batches ≡ counts.batches → late.due ≡ clock / CYCLES_PER_SAMPLE → late.due + fallen ≡ later / CYCLES_PER_SAMPLE
-      → lagging_of (late_with_samples chip late fallen) there later counts now ≡ with_fallen chip (lagging_of late io clock counts calls) fallen later there now
-  lagging_of-fallen late io there counts calls now clock later fallen batches due number =
+  pub lagging_of-fallen : (deferred : Deferred S) (io there : Io) (counts : Counts) (calls now clock later fallen : ℕ) → deferred.batches ≡ counts.batches → deferred.due ≡ clock / CYCLES_PER_SAMPLE → deferred.due + fallen ≡ later / CYCLES_PER_SAMPLE
+      → lagging_of (deferred_with_samples chip deferred fallen) there later counts now ≡ with_fallen chip (lagging_of deferred io clock counts calls) fallen later there now
+  lagging_of-fallen deferred io there counts calls now clock later fallen batches due number =
       λ i. record {
         machine = record {
-          memory = (samples chip.one_sample fallen (due i) late.chip late.memory).memory;
+          memory = (samples chip.one_sample fallen (due i) deferred.chip deferred.memory).memory;
           io = there;
-          chip = (samples chip.one_sample fallen (due i) late.chip late.memory).state;
-          mask = late.mask;
+          chip = (samples chip.one_sample fallen (due i) deferred.chip deferred.memory).state;
+          mask = deferred.mask;
           clock = later;
-          frames = late.frames ++ (samples chip.one_sample fallen (due i) late.chip late.memory).frames;
-          records = late.records ++ filter (in_mask late.mask) (samples chip.one_sample fallen (due i) late.chip late.memory).records;
+          frames = deferred.frames ++ (samples chip.one_sample fallen (due i) deferred.chip deferred.memory).frames;
+          records = deferred.records ++ filter (in_mask deferred.mask) (samples chip.one_sample fallen (due i) deferred.chip deferred.memory).records;
           calls = now;
         };
-        book = record { pending = late.pending + fallen; events = late.events; reach = late.reach; counts = counts; total = late.total };
+        book = record { pending = deferred.pending + fallen; events = deferred.events; reach = deferred.reach; counts = counts; total = deferred.total };
         chip_batches = batches i;
-        chip_sample = number i - (late.pending + fallen);
-        chip_total = late.total;
+        chip_sample = number i - (deferred.pending + fallen);
+        chip_total = deferred.total;
       }
 
   -- what a bus shows after a wait
-  pub lagging_of-wait : (late : Late S) (io : Io) (clock : ℕ) (counts : Counts) (calls cycles fallen : ℕ) → late.batches ≡ counts.batches → late.due ≡ clock / CYCLES_PER_SAMPLE → fallen ≡ samples_in clock cycles
-      → lagging_of (late_with_samples chip late fallen) (after_ticks_of io clock cycles) (clock + cycles) counts calls ≡ after_wait chip (lagging_of late io clock counts calls) cycles
-  lagging_of-wait late io clock counts calls cycles fallen batches due is =
+  pub lagging_of-wait : (deferred : Deferred S) (io : Io) (clock : ℕ) (counts : Counts) (calls cycles fallen : ℕ) → deferred.batches ≡ counts.batches → deferred.due ≡ clock / CYCLES_PER_SAMPLE → fallen ≡ samples_in clock cycles
+      → lagging_of (deferred_with_samples chip deferred fallen) (after_ticks_of io clock cycles) (clock + cycles) counts calls ≡ after_wait chip (lagging_of deferred io clock counts calls) cycles
+  lagging_of-wait deferred io clock counts calls cycles fallen batches due is =
       let ticked = after_ticks_of io clock cycles in
-      lagging_of-fallen late io ticked counts calls calls clock (clock + cycles) fallen batches due (omega arith)
-      ∙ (λ i. with_fallen chip (lagging_of late io clock counts calls) (is i) (clock + cycles) ticked calls)
+      lagging_of-fallen deferred io ticked counts calls calls clock (clock + cycles) fallen batches due (omega arith)
+      ∙ (λ i. with_fallen chip (lagging_of deferred io clock counts calls) (is i) (clock + cycles) ticked calls)

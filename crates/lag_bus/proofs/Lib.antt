@@ -4,7 +4,7 @@ pub mod SameMachine
 pub mod MergedRecords
 -- VoicesWithin: the records of samples are of voices, with their numbers
 pub mod VoicesWithin
--- ChangesOfHeld: what a chip some samples late comes to, after each change of what is held
+-- ChangesOfHeld: what a chip with deferred samples comes to, after each change of what is held
 pub mod ChangesOfHeld
 -- WritesToCome: samples to come read and write where the reach says
 pub mod WritesToCome
@@ -16,16 +16,16 @@ pub mod CountsAddUp
 pub mod PageMarks
 -- FallenDue: a bus at which some samples more are pending, and a pass from there
 pub mod FallenDue
--- RoomOfFallen: the room that samples take which fall due
-pub mod RoomOfFallen
--- PassesOfAWait: the machine with its lag book passes cycles in which it is only looked at
+-- CapacityOfFallen: the capacity that samples take which fall due
+pub mod CapacityOfFallen
+-- PassesOfAWait: the machine with its lag book passes cycles in which it is only read
 pub mod PassesOfAWait
--- IterationsOfAWait: and it makes iterations of steps that only look
+-- IterationsOfAWait: and it makes iterations of steps that only read
 pub mod IterationsOfAWait
 -- TotalOfCalls: over calls that load nothing the chip counts on
 pub mod TotalOfCalls
--- LateTicks: ticks that are done late are those of the cycles since
-pub mod LateTicks
+-- DeferredTicks: ticks that are deferred are those of the cycles since
+pub mod DeferredTicks
 -- PassesInHand: a bus that is behind, and what is done to the one that runs on it
 pub mod PassesInHand
 -- StepsInHand: steps on a bus in hand are those on the bus

@@ -6,9 +6,9 @@ use Rattle.ports_timers.specs.Io.{is_within, read_answer, after_read, after_writ
 use Rattle.chip_form.specs.ChipMeaning.{ChipMeaning}
 use Rattle.lag_bus.specs.Held.{IsMemoryAlone}
 use Rattle.lag_bus.specs.Lagging.{Lagging, lagging, with_book, MatchesBook}
-use Rattle.lag_bus.specs.Waiting.{with_fallen}
-use Rattle.lag_bus.specs.Running.{fallen_at, caught_up, IsBehind}
-use Rattle.lag_bus.proofs.LateTicks.{no_ticks, ticks_to_come}
+use Rattle.lag_bus.specs.IdleCycles.{with_fallen}
+use Rattle.lag_bus.specs.CachedClock.{fallen_at, caught_up, IsBehind}
+use Rattle.lag_bus.proofs.DeferredTicks.{no_ticks, ticks_to_come}
 use Rattle.lag_bus.proofs.FallenDue.{with_book-own, with_fallen-none, pass-with_fallen}
 use Rattle.spc700_exec.specs.declared.bus.TheConstants.{CYCLES_PER_SAMPLE}
 

@@ -1,10 +1,10 @@
--- The machine with its lag book passes cycles in which it is only looked at.
+-- The machine with its lag book passes cycles in which it is only read.
 use Rattle.std.proofs.Common.{◌≡◌, ℕ, ◌+◌, ◌-◌, ◌/◌, ◌<◌, ◌≤◌, Bool, true, false, refl, sym, ap, ◌∙◌, arith}
 use Rattle.ports_timers.specs.Io.{after_ticks_of}
 use Rattle.chip_form.specs.ChipMeaning.{ChipMeaning}
 use Rattle.lock_step.specs.LockStep.{crosses_sample}
 use Rattle.lag_bus.specs.Lagging.{Lagging, lagging}
-use Rattle.lag_bus.specs.Waiting.{samples_in, with_fallen, after_wait, without_calls, IsKept}
+use Rattle.lag_bus.specs.IdleCycles.{samples_in, with_fallen, after_wait, without_calls, IsKept}
 use Rattle.lag_bus.proofs.FallenDue.{with_book-own, with_fallen-none, pass-with_fallen}
 use Rattle.ports_timers.proofs.Ticks.{after_ticks_of-then, after_ticks_of-none}
 use Rattle.spc700_exec.specs.declared.bus.TheConstants.{CYCLES_PER_SAMPLE}

@@ -7,8 +7,8 @@ use Rattle.chip_form.specs.Samples.{SampleResult, SamplesResult, samples, one_mo
 use Rattle.chip_form.proofs.OneMoreSample.{samples_none, samples_more}
 use Rattle.chip_form.specs.ChipMeaning.{ChipMeaning}
 use Rattle.chip_form.specs.ChipLaws.{IsLawfulChip}
-use Rattle.lag_bus.specs.Late.{AreWritesWithin, AreReadsWithin}
-use Rattle.lag_bus.specs.Held.{Held, IsHeld, pending_samples, late_of}
+use Rattle.lag_bus.specs.Deferred.{AreWritesWithin, AreReadsWithin}
+use Rattle.lag_bus.specs.Held.{Held, IsHeld, pending_samples, deferred_of}
 
 -- what some samples leave and give, and more samples after them
 abbrev and_then : {S : Type 0} → SamplesResult S → SamplesResult S → SamplesResult S
@@ -36,14 +36,14 @@ both_then {S} sample (suc n) p k s memory =
     ∙ ap (λ (j : ℕ). and_then before (samples sample j (k + p) before.state before.memory)) (sym one)
 
 module _ {S : Type 0} {chip : ChipMeaning S} (laws : IsLawfulChip chip) {h : Held S} (is : IsHeld chip h) where
-  pub late_writes : AreWritesWithin chip (late_of chip h).reach (late_of chip h).pending (late_of chip h).due (late_of chip h).chip (late_of chip h).memory
+  pub late_writes : AreWritesWithin chip (deferred_of chip h).reach (deferred_of chip h).pending (deferred_of chip h).due (deferred_of chip h).chip (deferred_of chip h).memory
   late_writes fallen at few free =
       let both = both_then chip.one_sample fallen h.pending h.number h.state h.memory in
       sym (ap (λ (r : SamplesResult S). byte_at r.memory at) both)
       ∙ laws.writes_inside (fallen + h.pending) h.number h.state h.memory at (omega arith) is.is_valid free
       ∙ sym (laws.writes_inside h.pending h.number h.state h.memory at is.pending is.is_valid free)
 
-  pub late_reads : AreReadsWithin chip (late_of chip h).reach (late_of chip h).pending (late_of chip h).due (late_of chip h).chip (late_of chip h).memory
+  pub late_reads : AreReadsWithin chip (deferred_of chip h).reach (deferred_of chip h).pending (deferred_of chip h).due (deferred_of chip h).chip (deferred_of chip h).memory
   late_reads fallen at value few free =
       let put = with_byte h.memory at value in
       let before : SamplesResult S = pending_samples chip h in

@@ -10,7 +10,7 @@ use Rattle.lag_bus.specs.declared.cause.Cause.TheVariants.{Register, Memory, Ech
 use Rattle.chip_form.specs.ChipMeaning.{ChipMeaning}
 use Rattle.lock_step.specs.Machine.{Machine}
 use Rattle.lock_step.specs.LockStep.{writes_register, writes_port}
-use Rattle.trace_form.specs.Rooms.{event_room}
+use Rattle.trace_form.specs.Capacities.{event_capacity}
 use Rattle.chip_form.specs.Limits.{max_samples_of_batch}
 
 pub record Book : Type 0 where
@@ -46,7 +46,7 @@ abbrev pub cause_of_write : ReachPages → (dsp_address at pending events : ℕ)
 cause_of_write reach dsp_address at pending events =
     if writes_register dsp_address at then Some Register
     else if may_be_read reach at then Some Memory
-    else if writes_port at && nat_lt 0 pending && events == event_room then Some Events
+    else if writes_port at && nat_lt 0 pending && events == event_capacity then Some Events
     else None
 
 -- nothing has been counted

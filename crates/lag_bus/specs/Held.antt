@@ -8,13 +8,13 @@ use Rattle.ports_timers.specs.Io.{is_within}
 use Rattle.chip_form.specs.declared.pages.ReachPages.{ReachPages}
 use Rattle.chip_form.specs.Samples.{SamplesResult, samples, in_mask}
 use Rattle.chip_form.specs.ChipMeaning.{ChipMeaning}
-use Rattle.trace_form.specs.Rooms.{frame_room, record_room}
+use Rattle.trace_form.specs.Capacities.{frame_capacity, record_capacity}
 use Rattle.chip_form.specs.Limits.{max_samples_of_batch, max_samples_of_chip}
 use Rattle.lag_bus.specs.Each.{Each}
 use Rattle.lag_bus.specs.Merge.{merge}
 use Rattle.lock_step.specs.SampleNumbers.{sample_number}
 use Rattle.lag_bus.specs.Ready.{is_before_sample}
-use Rattle.lag_bus.specs.Late.{Late}
+use Rattle.lag_bus.specs.Deferred.{Deferred}
 use Rattle.lag_bus.specs.declared.reach_cache.ReachCache.{ReachCache}
 use Rattle.lag_bus.specs.Book.{may_be_read}
 
@@ -37,8 +37,8 @@ abbrev pub pending_samples : {S : Type 0} → ChipMeaning S → Held S → Sampl
 pending_samples chip h = samples chip.one_sample h.pending h.number h.state h.memory
 
 -- what there is once they are made
-abbrev pub late_of : {S : Type 0} → ChipMeaning S → Held S → Late S
-late_of chip h = record {
+abbrev pub deferred_of : {S : Type 0} → ChipMeaning S → Held S → Deferred S
+deferred_of chip h = record {
   chip = (pending_samples chip h).state;
   memory = (pending_samples chip h).memory;
   frames = h.frames ++ (pending_samples chip h).frames;
@@ -64,8 +64,8 @@ pub record IsHeld {S : Type 0} (chip : ChipMeaning S) (h : Held S) : Type 0 wher
   pub before_next : Each (λ event. is_before_sample (h.number + h.pending) event ≡ true) h.ring
   pub none_waits : h.pending ≡ 0 → h.ring ≡ []
   pub made_before : Each (λ item. is_before_sample h.number item ≡ true) h.records
-  pub frames_fit : length h.frames + h.pending ≤ frame_room
-  pub records_fit : length h.records + length h.ring + 8 * h.pending ≤ record_room
+  pub frames_fit : length h.frames + h.pending ≤ frame_capacity
+  pub records_fit : length h.records + length h.ring + 8 * h.pending ≤ record_capacity
 
 -- where memory alone ends on a page: before the ports of page 0, or before the ROM
 abbrev pub end_of_memory_alone : (page : ℕ) → ℕ

@@ -14,9 +14,9 @@ pub mod Calls
 -- That it keeps its laws; no promise speaks of these words:
 -- the machine with the lag book beside it keeps those of a bus, and of one that emits
 pub mod LagLaws
--- And words of the proof that a chip some samples late comes to the same:
+-- And words of the proof that a chip whose samples are deferred comes to the same:
 -- such a chip as it is once these samples are made
-pub mod Late
+pub mod Deferred
 -- what it holds until then
 pub mod Held
 -- records of voices and events in their order
@@ -26,9 +26,9 @@ pub mod Each
 -- what always holds of a bus over such a chip
 pub mod IsLagging
 -- Iterations that only wait:
--- the bus after cycles in which it is only looked at
-pub mod Waiting
+-- the bus after cycles in which it is only read
+pub mod IdleCycles
 -- The clock with the ports and timers, of which no promise speaks
 pub mod Clocked
--- Words of a bus while the processor runs on it, of which no promise speaks
-pub mod Running
+-- Words of a bus with a cached clock, on which the processor runs, of which no promise speaks
+pub mod CachedClock

@@ -9,8 +9,8 @@ ghost use Rattle.lock_step.specs.LockStep.{samples_due};
 ghost use Rattle.lock_step.specs.StepsOfRun.{AreStepsOf};
 ghost use Rattle.lag_bus.specs.Lagging.{lagging};
 ghost use Rattle.lag_bus.specs.LagEmits.{lag_emits};
-ghost use Rattle.lag_bus.specs.Waiting.{without_calls};
-ghost use Rattle.lag_bus.specs.Running.{MayFallBehind, running};
+ghost use Rattle.lag_bus.specs.IdleCycles.{without_calls};
+ghost use Rattle.lag_bus.specs.CachedClock.{MayFallBehind, cached};
 
 use crate::deferred_bus::DeferredBus;
 use spc700_exec::{Bus, CYCLES_PER_SAMPLE, Cpu, MAX_CALLS_BEFORE_STEP, step_awake};
@@ -36,9 +36,9 @@ impl<'a, B: DeferredBus> Model for CachedClockBus<'a, B> {
     ghost use Rattle.std.specs.Coded.{codes};
     ghost use Rattle.aram_core.specs.contracts.page_set.PageSet as page_set;
     ghost use Rattle.lag_bus.specs.Lagging.{Lagging};
-    ghost use Rattle.lag_bus.specs.Running.{Running, IsBehind, MayFallBehind, caught_up};
+    ghost use Rattle.lag_bus.specs.CachedClock.{CachedClock, IsBehind, MayFallBehind, caught_up};
 
-    ghost Value = { Running (Lagging B.C.State) };
+    ghost Value = { CachedClock (Lagging B.C.State) };
 
     ghost coded = { Prim.hlevel (codes, page_set.the_row.coded) };
 
@@ -162,20 +162,20 @@ impl<'a, B: DeferredBus> CachedClockBus<'a, B> {
 /// One step, on the bus in hand or, close to the moment up to which the bus may be left behind, on the bus itself.
 // In line with the loop: where more cycles are left than an instruction has, the optimizer finds that none of its passes needs a test.
 #[inline(always)]
-fn step_once<'a, B: DeferredBus>(cpu: &mut Cpu, running: &mut CachedClockBus<'a, B>)
-    requires few { running.old.samples ≤ max_frames }
-    requires calls { running.old.bus.machine.calls ≤ max_calls_before_step }
-    requires more { samples_due running.old.bus.machine < running.old.samples }
+fn step_once<'a, B: DeferredBus>(cpu: &mut Cpu, cached: &mut CachedClockBus<'a, B>)
+    requires few { cached.old.samples ≤ max_frames }
+    requires calls { cached.old.bus.machine.calls ≤ max_calls_before_step }
+    requires more { samples_due cached.old.bus.machine < cached.old.samples }
     requires awake { cpu.old.halted ≡ false }
-    ensures does { (cpu.new, running.new.bus) ≡ step_outcome (lagging B.C.meaning) cpu.old running.old.bus }
-    ensures name { running.new.name ≡ running.old.name }
-    ensures samples { running.new.samples ≡ running.old.samples }
-    ensures some { running.old.bus.machine.clock < running.new.bus.machine.clock }
+    ensures does { (cpu.new, cached.new.bus) ≡ step_outcome (lagging B.C.meaning) cpu.old cached.old.bus }
+    ensures name { cached.new.name ≡ cached.old.name }
+    ensures samples { cached.new.samples ≡ cached.old.samples }
+    ensures some { cached.old.bus.machine.clock < cached.new.bus.machine.clock }
 {
-    if running.may_fall_behind() {
-        step_awake(cpu, running);
+    if cached.may_fall_behind() {
+        step_awake(cpu, cached);
     } else {
-        running.step_on_bus(cpu);
+        cached.step_on_bus(cpu);
     }
 }
 
@@ -186,35 +186,35 @@ fn step_once<'a, B: DeferredBus>(cpu: &mut Cpu, running: &mut CachedClockBus<'a,
 #[inline(always)]
 fn step_on<'a, B: DeferredBus>(
     cpu: &mut Cpu,
-    running: &mut CachedClockBus<'a, B>,
+    cached: &mut CachedClockBus<'a, B>,
     drain_budget: u8,
 ) -> u8
-    requires calls { running.old.bus.machine.calls ≤ max_calls_before_step }
-    requires more { samples_due running.old.bus.machine < running.old.samples }
-    requires few { running.old.samples ≤ max_frames }
-    ensures name { running.new.name ≡ running.old.name }
-    ensures steps { AreStepsOf (lagging B.C.meaning) (lag_emits B.C.meaning) running.old.samples cpu.old running.old.bus cpu.new running.new.bus }
-    ensures some { running.old.bus.machine.clock < running.new.bus.machine.clock }
+    requires calls { cached.old.bus.machine.calls ≤ max_calls_before_step }
+    requires more { samples_due cached.old.bus.machine < cached.old.samples }
+    requires few { cached.old.samples ≤ max_frames }
+    ensures name { cached.new.name ≡ cached.old.name }
+    ensures steps { AreStepsOf (lagging B.C.meaning) (lag_emits B.C.meaning) cached.old.samples cpu.old cached.old.bus cpu.new cached.new.bus }
+    ensures some { cached.old.bus.machine.clock < cached.new.bus.machine.clock }
 {
     if cpu.halted {
-        running.step_on_bus(cpu);
+        cached.step_on_bus(cpu);
         return drain_budget;
     }
     let mut left = drain_budget;
     'steps: loop {
-        if running.is_at_end() {
+        if cached.is_at_end() {
             break;
         }
-        step_once(cpu, running);
+        step_once(cpu, cached);
         // Asked where an instruction ends, each of which has its own answer: so no step in hand asks whether the one before it halted.
         if cpu.halted {
             break;
         }
-        if !running.has_room_for_step() {
+        if !cached.has_room_for_step() {
             if left == 0 {
                 break;
             }
-            if !running.begin_calls_anew() {
+            if !cached.begin_calls_anew() {
                 break;
             }
             left -= 1;
@@ -239,21 +239,21 @@ pub(crate) fn take_steps<B: DeferredBus>(
     ensures some { (B.shows bus.old).machine.clock < (B.shows bus.new).machine.clock }
 {
     // The registers stay in memory. In a copy a compiler would keep them in its own registers, and save and load these around each of 256 arms.
-    let mut running = CachedClockBus::new(bus, samples);
-    let drain_budget_left = step_on(cpu, &mut running, drain_budget);
+    let mut cached = CachedClockBus::new(bus, samples);
+    let drain_budget_left = step_on(cpu, &mut cached, drain_budget);
     let CachedClockBus {
         bus: behind,
         samples: _,
         until,
         left,
         calls,
-    } = running;
+    } = cached;
     behind.catch_up(until - left, calls);
     drain_budget_left
 }
 
 impl<'a, B: DeferredBus> Bus for CachedClockBus<'a, B> {
-    ghost means = { running (lagging B.C.meaning) };
+    ghost means = { cached (lagging B.C.meaning) };
 
     #[inline(always)]
     fn read(&mut self, addr: u16) -> u8 {

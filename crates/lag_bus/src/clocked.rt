@@ -9,7 +9,7 @@ use ports_timers::{Io, tick_through};
 use std::marker::Model;
 
 /// The clock, the calls since the last drain, and the ports, the ROM and the timers as they are at the clock. The ticks of
-/// the cycles that passed are done late: where something asks for them, or the bus itself passes more.
+/// the cycles that passed are deferred: where something asks for them, or the bus itself passes more.
 #[derive(Drop)]
 pub struct ClockedIo {
     io: Io,
@@ -34,7 +34,7 @@ impl Model for ClockedIo {
 
 impl ClockedIo {
     /// The ports and timers at a moment of the clock, and no calls.
-    #[tactic(auto, using(crate::proofs::LateTicks::no_ticks))]
+    #[tactic(auto, using(crate::proofs::DeferredTicks::no_ticks))]
     pub fn new(io: Io, clock: u64) -> Self
         requires { clock < clock_limit }
         ensures { result ≡ record { io = io; clock = clock; calls = 0 } }
@@ -75,7 +75,7 @@ impl ClockedIo {
 
     /// Lets the clock and the calls catch up with a later moment.
     #[inline(always)]
-    #[tactic(auto, using(crate::proofs::LateTicks::ticks_between))]
+    #[tactic(auto, using(crate::proofs::DeferredTicks::ticks_between))]
     pub fn catch_up(&mut self, clock: u64, calls: u8)
         requires later { self.old.clock ≤ clock }
         requires fits { clock < clock_limit }
@@ -98,7 +98,7 @@ impl ClockedIo {
 
     /// Counts a call that lets some cycles pass.
     #[inline(always)]
-    #[tactic(auto, using(crate::proofs::LateTicks::ticks_to_come))]
+    #[tactic(auto, using(crate::proofs::DeferredTicks::ticks_to_come))]
     pub fn pass(&mut self, cycles: u8)
         requires calls { self.old.calls < 255 }
         requires clock { self.old.clock + cycles < clock_limit }
@@ -109,7 +109,7 @@ impl ClockedIo {
     }
 
     /// Lets some cycles pass.
-    #[tactic(auto, using(crate::proofs::LateTicks::ticks_to_come))]
+    #[tactic(auto, using(crate::proofs::DeferredTicks::ticks_to_come))]
     pub fn wait(&mut self, cycles: u64)
         requires { self.old.clock + cycles < clock_limit }
         ensures { self.new ≡ clocked_after cycles self.old }
@@ -134,7 +134,7 @@ impl ClockedIo {
     }
 
     /// Answers a read as the ports and timers do.
-    #[tactic(auto, using(crate::proofs::LateTicks::no_ticks))]
+    #[tactic(auto, using(crate::proofs::DeferredTicks::no_ticks))]
     pub fn read(&mut self, at: u16) -> Option<u8>
         ensures answer { result ≡ read_answer self.old.io at }
         ensures after { self.new ≡ record self.old { io = after_read self.old.io at } }
@@ -146,7 +146,7 @@ impl ClockedIo {
     }
 
     /// Takes a write as the ports and timers do, which tick up to it under the targets that were there.
-    #[tactic(auto, using(crate::proofs::LateTicks::no_ticks))]
+    #[tactic(auto, using(crate::proofs::DeferredTicks::no_ticks))]
     pub fn write(&mut self, at: u16, value: u8)
         ensures { self.new ≡ record self.old { io = after_write self.old.io at value } }
     {

@@ -8,8 +8,8 @@ ghost use Rattle.lock_step.specs.LockStep.{samples_due};
 ghost use Rattle.lag_bus.specs.Book.{may_be_read, may_be_written};
 ghost use Rattle.lag_bus.specs.Held.{IsMemoryAlone};
 ghost use Rattle.lag_bus.specs.Lagging.{Lagging, lagging, MatchesBook};
-ghost use Rattle.lag_bus.specs.Waiting.{without_calls};
-ghost use Rattle.lag_bus.specs.Running.{caught_up, IsBehind, IsDrained, WritesWithin, ReadsWithin};
+ghost use Rattle.lag_bus.specs.IdleCycles.{without_calls};
+ghost use Rattle.lag_bus.specs.CachedClock.{caught_up, IsBehind, IsDrained, WritesWithin, ReadsWithin};
 
 use chip_form::Chip;
 use spc700_exec::{CYCLES_PER_SAMPLE, Cpu};

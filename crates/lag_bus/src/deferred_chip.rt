@@ -1,11 +1,11 @@
-// A chip with its memory and its output, some samples late. What each access of the bus asks is inlined into it.
+// A chip with its memory and its output, some samples of which are deferred. What each access of the bus asks is inlined into it.
 ghost use Rattle.std.specs.Prelude.{ℕ, ◌≡◌, ◌&&◌, ◌+◌, ◌-◌, ◌*◌, ◌^◌, ◌<◌, ◌≤◌, ◌++◌, ◌∷◌, [], ◌==◌, true, false, length, if◌then◌else◌, ◌||◌, not};
 ghost use Rattle.aram_core.specs.Memory.{byte_at, with_byte};
 ghost use Rattle.chip_form.specs.Samples.{samples, AddsSamples, count_after};
 ghost use Rattle.lag_bus.specs.Book.{may_be_read, may_be_written, cause_of_read, cause_of_write};
 ghost use Rattle.lag_bus.specs.Held.{IsMemoryAlone};
-ghost use Rattle.lag_bus.specs.Late.{late_with_sample, AreWritesWithin, AreReadsWithin};
-ghost use Rattle.trace_form.specs.Rooms.{frame_room, record_room, event_room};
+ghost use Rattle.lag_bus.specs.Deferred.{deferred_with_sample, AreWritesWithin, AreReadsWithin};
+ghost use Rattle.trace_form.specs.Capacities.{frame_capacity, record_capacity, event_capacity};
 ghost use Rattle.chip_form.specs.Limits.{max_samples_of_batch, max_samples_of_chip};
 ghost use Rattle.lock_step.specs.SampleNumbers.{sample_number};
 ghost use Rattle.lag_bus.specs.Ready.{is_before_sample, ready_frames, waiting_frames, ready_records, waiting_records, NoneIsReady};
@@ -17,7 +17,7 @@ use aram_core::{Aram, page_of};
 use chip_form::Chip;
 use lock_step::{writes_port, writes_register};
 use std::marker::Model;
-use trace_form::{EVENT_ROOM, EventRing, Frames, Record, Records};
+use trace_form::{EVENT_CAPACITY, EventRing, Frames, Record, Records};
 
 /// A chip, its memory and its output, with samples that are counted and not made yet. Of its reach that is asked which an access
 /// needs, and what was found is kept until it may be another.
@@ -35,16 +35,16 @@ pub struct DeferredChip<C: Chip> {
 }
 
 impl<C: Chip> Model for DeferredChip<C> {
-    ghost use Rattle.lag_bus.specs.Late.{Late};
-    ghost use Rattle.lag_bus.specs.Held.{late_of, IsHeld, IsKnown};
+    ghost use Rattle.lag_bus.specs.Deferred.{Deferred};
+    ghost use Rattle.lag_bus.specs.Held.{deferred_of, IsHeld, IsKnown};
     ghost use Rattle.std.specs.Coded.{codes};
     ghost use Rattle.aram_core.specs.contracts.page_set.PageSet as page_set;
 
-    ghost Value = { Late C.State };
+    ghost Value = { Deferred C.State };
 
     ghost coded = { Prim.hlevel (codes, page_set.the_row.coded) };
 
-    ghost view = { λ b. late_of C.meaning (record {
+    ghost view = { λ b. deferred_of C.meaning (record {
       state = C.state b.chip;
       number = C.sample b.chip;
       batches = C.batches b.chip;
@@ -116,7 +116,7 @@ fn make_samples<C: Chip>(
     requires is_valid { C.meaning.is_valid (C.state chip.old) ≡ true }
     requires few { n ≤ max_samples_of_batch }
     requires number { C.sample chip.old + n ≤ max_samples_of_chip }
-    requires room { length frames.old + n ≤ frame_room }
+    requires room { length frames.old + n ≤ frame_capacity }
     ensures made { let made = samples C.meaning.one_sample n (C.sample chip.old) (C.state chip.old) memory.old in
         AddsSamples mask made (C.state chip.new) memory.new frames.old frames.new [] voice_records.new }
     ensures sample { C.sample chip.new ≡ C.sample chip.old + n }
@@ -218,7 +218,7 @@ impl<C: Chip> DeferredChip<C> {
         ensures rest { self.new ≡ self.old }
     {
         let waits = writes_port(at) && self.pending > 0;
-        let is_full = waits && self.ring.len() == EVENT_ROOM;
+        let is_full = waits && self.ring.len() == EVENT_CAPACITY;
         if writes_register(dsp_address, at) {
             Some(Cause::Register)
         } else if self.may_be_read(at) {
@@ -288,8 +288,8 @@ impl<C: Chip> DeferredChip<C> {
     pub fn emit(&mut self, item: Record)
         requires number { sample_number item ≡ self.old.due }
         requires before { is_before_sample self.old.due item ≡ true }
-        requires few { 0 < self.old.pending → self.old.events < event_room }
-        requires room { self.old.records_used < record_room }
+        requires few { 0 < self.old.pending → self.old.events < event_capacity }
+        requires room { self.old.records_used < record_capacity }
         ensures { self.new ≡ record self.old {
           records = self.old.records ++ item ∷ [];
           events = if self.old.pending == 0 then self.old.events else self.old.events + 1;
@@ -323,10 +323,11 @@ impl<C: Chip> DeferredChip<C> {
 
     /// Where nothing is ready to be drained, the room is taken by what pending samples and events will be alone.
     pub fn holds_only_what_waits(&self)
-        ensures frames { let late = self.now in
-            NoneIsReady late.pending (late.due - late.pending) late.frames late.records → late.frames_used ≡ late.pending }
-        ensures records { let late = self.now in
-            NoneIsReady late.pending (late.due - late.pending) late.frames late.records → late.records_used ≡ late.events + 8 * late.pending }
+        ensures frames { let deferred = self.now in
+            NoneIsReady deferred.pending (deferred.due - deferred.pending) deferred.frames deferred.records → deferred.frames_used ≡ deferred.pending }
+        ensures records { let deferred = self.now in
+            NoneIsReady deferred.pending (deferred.due - deferred.pending) deferred.frames deferred.records
+            → deferred.records_used ≡ deferred.events + 8 * deferred.pending }
     {
         let _drained = self.is_drained();
     }
@@ -335,9 +336,9 @@ impl<C: Chip> DeferredChip<C> {
     pub fn queue(&mut self)
         requires few { self.old.pending < max_samples_of_batch }
         requires number { self.old.due < max_samples_of_chip }
-        requires frames { self.old.frames_used < frame_room }
-        requires records { self.old.records_used + 8 ≤ record_room }
-        ensures { self.new ≡ late_with_sample C.meaning self.old }
+        requires frames { self.old.frames_used < frame_capacity }
+        requires records { self.old.records_used + 8 ≤ record_capacity }
+        ensures { self.new ≡ deferred_with_sample C.meaning self.old }
     {
         self.pending += 1;
     }

@@ -3,7 +3,7 @@ ghost use Rattle.std.specs.Prelude.{◌≡◌, ◌+◌, ◌*◌, ◌/◌, ◌-�
 ghost use Rattle.aram_core.specs.Memory.{byte_at, with_byte};
 ghost use Rattle.spc700_exec.specs.Bus.{max_calls};
 ghost use Rattle.chip_form.specs.Samples.{count_after};
-ghost use Rattle.trace_form.specs.Rooms.{record_room, event_room};
+ghost use Rattle.trace_form.specs.Capacities.{record_capacity, event_capacity};
 ghost use Rattle.num_fix.specs.Limits.{max_frames};
 ghost use Rattle.chip_form.specs.Limits.{max_samples_of_batch};
 ghost use Rattle.lock_step.specs.Machine.{opened_machine};
@@ -15,7 +15,7 @@ ghost use Rattle.lag_bus.specs.Saved.{CanBeLoaded, saved_bus, loaded_lagging};
 ghost use Rattle.lag_bus.specs.LagEmits.{lag_emits, after_drain};
 ghost use Rattle.lag_bus.specs.LagLaws.{lagging-lawful, emits_frames, emits_records, frame_each, counting, beside};
 ghost use Rattle.ports_timers.specs.Zeros.{zeros_stay, AreTimers};
-ghost use Rattle.lag_bus.specs.Waiting.{byte_seen, samples_in};
+ghost use Rattle.lag_bus.specs.IdleCycles.{byte_seen, samples_in};
 ghost use Rattle.lag_bus.specs.Held.{IsMemoryAlone};
 
 use crate::OutOfMemory;
@@ -46,7 +46,7 @@ const MAX_PENDING: u8 = BATCH_SIZE as u8;
 /// What is emitted waits in it for the next drain.
 #[derive(Drop)]
 pub struct LagBus<C: Chip> {
-    late: DeferredChip<C>,
+    deferred: DeferredChip<C>,
     time: ClockedIo,
     counts: Counts,
 }
@@ -61,36 +61,36 @@ impl<C: Chip> Model for LagBus<C> {
 
     ghost coded = { Prim.hlevel (codes, page_set.the_row.coded) };
 
-    ghost view = { λ b. lagging_of b.late b.time.io b.time.clock b.counts b.time.calls };
+    ghost view = { λ b. lagging_of b.deferred b.time.io b.time.clock b.counts b.time.calls };
 
-    ghost invariant = { λ b. IsLagging b.late b.counts b.time.clock b.time.calls };
+    ghost invariant = { λ b. IsLagging b.deferred b.counts b.time.clock b.time.calls };
 }
 
 /// Makes the pending samples, for a cause.
 // Out of line, as all that is rarer than an access: what each access runs stays small.
 #[inline(never)]
 #[tactic(auto, using(crate::proofs::CountsAddUp::adds_up))]
-fn settle_for<C: Chip>(late: &mut DeferredChip<C>, counts: &mut Counts, cause: Cause)
-    requires { 0 < late.old.pending }
-    ensures late { late.new ≡ record late.old {
+fn settle_for<C: Chip>(deferred: &mut DeferredChip<C>, counts: &mut Counts, cause: Cause)
+    requires { 0 < deferred.old.pending }
+    ensures deferred { deferred.new ≡ record deferred.old {
       pending = 0;
       events = 0;
-      reach = C.meaning.reach late.old.chip late.old.memory;
-      batches = count_after late.old.batches 1;
-      total = count_after late.old.total late.old.pending;
-      records_used = late.new.records_used;
+      reach = C.meaning.reach deferred.old.chip deferred.old.memory;
+      batches = count_after deferred.old.batches 1;
+      total = count_after deferred.old.total deferred.old.pending;
+      records_used = deferred.new.records_used;
     } }
-    ensures room { late.new.records_used ≤ late.old.records_used }
+    ensures room { deferred.new.records_used ≤ deferred.old.records_used }
     ensures counts { counts.new ≡ counts_with_batch cause counts.old }
     ensures adds_up { AddsUp counts.old → AddsUp counts.new }
 {
-    late.settle();
+    deferred.settle();
     *counts = counts_with_batch(cause, *counts);
 }
 
 impl<C: Chip> LagBus<C> {
     /// The bus at clock 0 over a chip that stands at sample 0 and has made no batch. It emits the records of the voices in the mask;
-    /// bit v of the mask is voice v. All room is made here. The chip has its registers already, so the opening's aren't used.
+    /// bit v of the mask is voice v. All memory is allocated here. The chip has its registers already, so the opening's aren't used.
     pub fn open(alloc: Global, opening: OpenState, chip: C, mask: u8) -> Result<Self, OutOfMemory>
         requires sample { C.sample chip ≡ 0 }
         requires batches { C.batches chip ≡ 0 }
@@ -103,7 +103,7 @@ impl<C: Chip> LagBus<C> {
         let voices = Records::new(alloc)?;
         let ring = EventRing::new(alloc)?;
         Ok(LagBus {
-            late: DeferredChip::new(chip, opening.memory, mask, frames, records, voices, ring),
+            deferred: DeferredChip::new(chip, opening.memory, mask, frames, records, voices, ring),
             time: ClockedIo::new(Io::from_cells(opening.cells, opening.rom), 0),
             counts: no_counts(),
         })
@@ -120,7 +120,7 @@ impl<C: Chip> LagBus<C> {
         ensures all { C.total result.now ≡ self.now.book.total }
         ensures state { self.now.book.pending ≡ 0 → C.state result.now ≡ self.now.machine.chip }
     {
-        self.late.chip()
+        self.deferred.chip()
     }
 
     /// The samples that the chip hasn't made yet.
@@ -128,7 +128,7 @@ impl<C: Chip> LagBus<C> {
         ensures pending { result ≡ self.now.book.pending }
         ensures few { result ≤ max_samples_of_batch }
     {
-        self.late.pending()
+        self.deferred.pending()
     }
 
     /// How often the chip ran, and why. The chip in hand, which `chip` gives, made these batches.
@@ -145,14 +145,14 @@ impl<C: Chip> LagBus<C> {
     pub fn total(&self) -> u64
         ensures { result ≡ self.now.chip_total }
     {
-        self.late.total()
+        self.deferred.total()
     }
 
     /// The numbers of the chip in hand are those of the book.
     pub fn matches_its_book(&self)
         ensures { MatchesBook self.now }
     {
-        self.late.counts_fit();
+        self.deferred.counts_fit();
     }
 
     /// Saves the bus but for its memory, while no sample is pending.
@@ -164,7 +164,7 @@ impl<C: Chip> LagBus<C> {
         BusState {
             io: self.time.io(),
             clock: self.time.clock(),
-            chip: self.late.save(),
+            chip: self.deferred.save(),
         }
     }
 
@@ -173,7 +173,7 @@ impl<C: Chip> LagBus<C> {
         requires { self.now.book.pending ≡ 0 }
         ensures { result.now ≡ self.now.machine.memory }
     {
-        self.late.memory()
+        self.deferred.memory()
     }
 
     /// Loads what was saved, of this bus or of another one, over a memory, while no sample is pending and all was drained. The mask
@@ -187,7 +187,7 @@ impl<C: Chip> LagBus<C> {
         ensures batches { self.new.chip_batches ≡ self.old.chip_batches }
         ensures total { self.new.chip_total ≡ self.old.chip_total }
     {
-        self.late.load(&saved.chip, memory);
+        self.deferred.load(&saved.chip, memory);
         self.time = ClockedIo::new(saved.io, saved.clock);
     }
 
@@ -201,13 +201,13 @@ impl<C: Chip> LagBus<C> {
     {
         self.time.count();
         let address = self.time.dsp_address();
-        if self.late.pending() > 0 {
-            if let Some(cause) = self.late.cause_of_read(address, 0xF3) {
-                settle_for(&mut self.late, &mut self.counts, cause);
+        if self.deferred.pending() > 0 {
+            if let Some(cause) = self.deferred.cause_of_read(address, 0xF3) {
+                settle_for(&mut self.deferred, &mut self.counts, cause);
             }
         }
         let known = self.time.read(0xF3);
-        answer_of(&self.late, address, known, 0xF3)
+        answer_of(&self.deferred, address, known, 0xF3)
     }
 
     /// A read of an address of which no mark shows anything.
@@ -223,15 +223,15 @@ impl<C: Chip> LagBus<C> {
             return self.read_register();
         }
         self.time.count();
-        if self.late.pending_may_write(addr) {
-            settle_for(&mut self.late, &mut self.counts, Cause::Echo);
+        if self.deferred.pending_may_write(addr) {
+            settle_for(&mut self.deferred, &mut self.counts, Cause::Echo);
         }
         if is_memory_alone(addr) {
-            return self.late.get(addr);
+            return self.deferred.get(addr);
         }
         let address = self.time.dsp_address();
         let known = self.time.read(addr);
-        answer_of(&self.late, address, known, addr)
+        answer_of(&self.deferred, address, known, addr)
     }
 
     /// A read that is first looked at as one of memory alone while nothing is pending. Where each sample is a batch, as with an echo that
@@ -243,9 +243,9 @@ impl<C: Chip> LagBus<C> {
         ensures answer { result ≡ ((lagging C.meaning).read self.old addr).0 }
         ensures next { self.new ≡ ((lagging C.meaning).read self.old addr).1 }
     {
-        if self.late.pending() == 0 && is_memory_alone(addr) {
+        if self.deferred.pending() == 0 && is_memory_alone(addr) {
             self.time.count();
-            return self.late.get(addr);
+            return self.deferred.get(addr);
         }
         self.read(addr)
     }
@@ -260,7 +260,7 @@ impl<C: Chip> LagBus<C> {
         ensures timers { AreTimers self.now.machine.io }
     {
         let clock = self.time.clock();
-        let free = CYCLES_PER_SAMPLE * u64::from(MAX_PENDING - self.late.pending())
+        let free = CYCLES_PER_SAMPLE * u64::from(MAX_PENDING - self.deferred.pending())
             - 1
             - clock % CYCLES_PER_SAMPLE;
         let rest = CYCLES_PER_SAMPLE * u64::from(samples) - 1 - clock;
@@ -278,15 +278,15 @@ impl<C: Chip> LagBus<C> {
         let sample = self.due();
         let address = self.time.dsp_address();
         self.time.write(addr, value);
-        if self.late.pending() == 0 {
-            return write_now(&mut self.late, address, addr, value, sample);
+        if self.deferred.pending() == 0 {
+            return write_now(&mut self.deferred, address, addr, value, sample);
         }
-        match self.late.cause_of_write(address, addr) {
+        match self.deferred.cause_of_write(address, addr) {
             Some(cause) => {
-                settle_for(&mut self.late, &mut self.counts, cause);
-                write_now(&mut self.late, address, addr, value, sample);
+                settle_for(&mut self.deferred, &mut self.counts, cause);
+                write_now(&mut self.deferred, address, addr, value, sample);
             }
-            None => write_beside_pending(&mut self.late, addr, value, sample),
+            None => write_beside_pending(&mut self.deferred, addr, value, sample),
         }
     }
 }
@@ -302,76 +302,76 @@ fn is_memory_alone(addr: u16) -> bool
 }
 
 /// The answer of a read for which no pending sample is needed, by what the ports and timers show, if they do.
-fn answer_of<C: Chip>(late: &DeferredChip<C>, address: u8, known: Option<u8>, at: u16) -> u8
-    requires memory { (late.now.pending == 0 || not (may_be_written late.now.reach at)) ≡ true }
-    requires register { at ≡ 0xF3 → (late.now.pending == 0 || not (C.meaning.is_result (address % 0x80))) ≡ true }
-    ensures { result ≡ if at == 0xF3 then C.meaning.register_read late.now.chip (address % 0x80) else unwrap_or known (byte_at late.now.memory at) }
+fn answer_of<C: Chip>(deferred: &DeferredChip<C>, address: u8, known: Option<u8>, at: u16) -> u8
+    requires memory { (deferred.now.pending == 0 || not (may_be_written deferred.now.reach at)) ≡ true }
+    requires register { at ≡ 0xF3 → (deferred.now.pending == 0 || not (C.meaning.is_result (address % 0x80))) ≡ true }
+    ensures { result ≡ if at == 0xF3 then C.meaning.register_read deferred.now.chip (address % 0x80) else unwrap_or known (byte_at deferred.now.memory at) }
 {
     if at == 0xF3 {
-        return late.reg_read(address % 0x80);
+        return deferred.reg_read(address % 0x80);
     }
     match known {
         Some(byte) => byte,
-        None => late.get(at),
+        None => deferred.get(at),
     }
 }
 
 /// What a write does while no sample is pending.
-fn write_now<C: Chip>(late: &mut DeferredChip<C>, address: u8, at: u16, value: u8, sample: u32)
-    requires none { late.old.pending ≡ 0 }
-    requires sample { sample ≡ late.old.due }
-    requires room { late.old.records_used < record_room }
-    ensures late { late.new ≡ record late.old {
-      memory = with_byte late.old.memory at value;
-      chip = if writes_register address at then C.meaning.register_write late.old.chip address value else late.old.chip;
-      records = late.old.records ++ write_records sample address at value;
-      reach = late.new.reach;
-      records_used = late.new.records_used;
+fn write_now<C: Chip>(deferred: &mut DeferredChip<C>, address: u8, at: u16, value: u8, sample: u32)
+    requires none { deferred.old.pending ≡ 0 }
+    requires sample { sample ≡ deferred.old.due }
+    requires room { deferred.old.records_used < record_capacity }
+    ensures deferred { deferred.new ≡ record deferred.old {
+      memory = with_byte deferred.old.memory at value;
+      chip = if writes_register address at then C.meaning.register_write deferred.old.chip address value else deferred.old.chip;
+      records = deferred.old.records ++ write_records sample address at value;
+      reach = deferred.new.reach;
+      records_used = deferred.new.records_used;
     } }
-    ensures reach { late.new.reach ≡ C.meaning.reach late.new.chip late.new.memory }
-    ensures same_reach { writes_register address at ≡ false → may_be_read late.old.reach at ≡ false → late.new.reach ≡ late.old.reach }
-    ensures room { late.new.records_used ≤ late.old.records_used + 1 }
+    ensures reach { deferred.new.reach ≡ C.meaning.reach deferred.new.chip deferred.new.memory }
+    ensures same_reach { writes_register address at ≡ false → may_be_read deferred.old.reach at ≡ false → deferred.new.reach ≡ deferred.old.reach }
+    ensures room { deferred.new.records_used ≤ deferred.old.records_used + 1 }
 {
     if writes_register(address, at) {
-        late.reg_write(address, value);
-        late.emit(Record::Reg {
+        deferred.reg_write(address, value);
+        deferred.emit(Record::Reg {
             sample,
             addr: address,
             value,
         });
     } else if writes_port(at) {
-        late.emit(Record::Port {
+        deferred.emit(Record::Port {
             sample,
             port: (at - 0xF4) as u8,
             value,
         });
     }
-    late.put(at, value);
+    deferred.put(at, value);
 }
 
 /// What a write does for which no pending sample is needed.
-fn write_beside_pending<C: Chip>(late: &mut DeferredChip<C>, at: u16, value: u8, sample: u32)
-    requires free { may_be_read late.old.reach at ≡ false }
-    requires some { 0 < late.old.pending }
-    requires ring { writes_port at ≡ true → late.old.events < event_room }
-    requires sample { sample ≡ late.old.due }
-    requires room { late.old.records_used < record_room }
-    ensures late { late.new ≡ record late.old {
-      memory = with_byte late.old.memory at value;
-      records = late.old.records ++ write_records sample 0x80 at value;
-      events = if writes_port at then late.old.events + 1 else late.old.events;
-      records_used = late.new.records_used;
+fn write_beside_pending<C: Chip>(deferred: &mut DeferredChip<C>, at: u16, value: u8, sample: u32)
+    requires free { may_be_read deferred.old.reach at ≡ false }
+    requires some { 0 < deferred.old.pending }
+    requires ring { writes_port at ≡ true → deferred.old.events < event_capacity }
+    requires sample { sample ≡ deferred.old.due }
+    requires room { deferred.old.records_used < record_capacity }
+    ensures deferred { deferred.new ≡ record deferred.old {
+      memory = with_byte deferred.old.memory at value;
+      records = deferred.old.records ++ write_records sample 0x80 at value;
+      events = if writes_port at then deferred.old.events + 1 else deferred.old.events;
+      records_used = deferred.new.records_used;
     } }
-    ensures room { late.new.records_used ≤ late.old.records_used + 1 }
+    ensures room { deferred.new.records_used ≤ deferred.old.records_used + 1 }
 {
     if writes_port(at) {
-        late.emit(Record::Port {
+        deferred.emit(Record::Port {
             sample,
             port: (at - 0xF4) as u8,
             value,
         });
     }
-    late.put(at, value);
+    deferred.put(at, value);
 }
 
 impl<C: Chip> Bus for LagBus<C> {
@@ -380,13 +380,13 @@ impl<C: Chip> Bus for LagBus<C> {
     // Mostly the address is a port, in page 0, which no sample writes. Out of line, as what is rarer than an access of memory alone.
     #[inline(never)]
     fn read(&mut self, addr: u16) -> u8 {
-        if addr >= 0x100 || addr == 0xF3 || !self.late.is_unwritten(addr) {
+        if addr >= 0x100 || addr == 0xF3 || !self.deferred.is_unwritten(addr) {
             return self.read_unmarked(addr);
         }
         self.time.count();
         let address = self.time.dsp_address();
         let known = self.time.read(addr);
-        answer_of(&self.late, address, known, addr)
+        answer_of(&self.deferred, address, known, addr)
     }
 
     fn write(&mut self, addr: u16, value: u8) {
@@ -394,10 +394,10 @@ impl<C: Chip> Bus for LagBus<C> {
             0xF0..=0xFF => self.write_io(addr, value),
             _ => {
                 self.time.count();
-                if self.late.pending() > 0 && self.late.may_be_read(addr) {
-                    settle_for(&mut self.late, &mut self.counts, Cause::Memory);
+                if self.deferred.pending() > 0 && self.deferred.may_be_read(addr) {
+                    settle_for(&mut self.deferred, &mut self.counts, Cause::Memory);
                 }
-                self.late.put(addr, value);
+                self.deferred.put(addr, value);
             }
         }
     }
@@ -406,9 +406,9 @@ impl<C: Chip> Bus for LagBus<C> {
         let from = self.time.clock();
         self.time.pass(cycles);
         if from / CYCLES_PER_SAMPLE < self.time.clock() / CYCLES_PER_SAMPLE {
-            self.late.queue();
-            if self.late.pending() == MAX_PENDING {
-                settle_for(&mut self.late, &mut self.counts, Cause::Full);
+            self.deferred.queue();
+            if self.deferred.pending() == MAX_PENDING {
+                settle_for(&mut self.deferred, &mut self.counts, Cause::Full);
             }
         }
     }
@@ -428,22 +428,22 @@ impl<C: Chip> DeferredBus for LagBus<C> {
 
     #[inline(always)]
     fn is_unwritten_memory(&self, addr: u16) -> bool {
-        self.late.is_unwritten_memory(addr)
+        self.deferred.is_unwritten_memory(addr)
     }
 
     #[inline(always)]
     fn is_unread_memory(&self, addr: u16) -> bool {
-        self.late.is_unread_memory(addr)
+        self.deferred.is_unread_memory(addr)
     }
 
     #[inline(always)]
     fn byte(&self, addr: u16) -> u8 {
-        self.late.get(addr)
+        self.deferred.get(addr)
     }
 
     #[inline(always)]
     fn put_unread(&mut self, addr: u16, value: u8) {
-        self.late.put_unread(addr, value);
+        self.deferred.put_unread(addr, value);
     }
 
     fn clock(&self) -> u64 {
@@ -456,14 +456,14 @@ impl<C: Chip> DeferredBus for LagBus<C> {
     }
 
     fn flush_deadline(&self) -> u64 {
-        let to_come = u64::from(MAX_PENDING - self.late.pending());
+        let to_come = u64::from(MAX_PENDING - self.deferred.pending());
         CYCLES_PER_SAMPLE * (self.time.clock() / CYCLES_PER_SAMPLE + to_come)
     }
 
     // In line with the loop over steps, which asks it where the room for calls is filled.
     #[inline]
     fn begin_calls_anew(&mut self) -> bool {
-        if !self.late.is_drained() {
+        if !self.deferred.is_drained() {
             return false;
         }
         self.time.restart();
@@ -471,10 +471,10 @@ impl<C: Chip> DeferredBus for LagBus<C> {
     }
 
     fn catch_up(&mut self, clock: u64, calls: u8) {
-        self.late.holds_only_what_waits();
+        self.deferred.holds_only_what_waits();
         let fallen = (clock / CYCLES_PER_SAMPLE - self.time.clock() / CYCLES_PER_SAMPLE) as u8;
         self.time.catch_up(clock, calls);
-        queue_all(&mut self.late, fallen);
+        queue_all(&mut self.deferred, fallen);
     }
 
     // Out of line and cold, as what is rarer than an access of memory alone: what a step keeps in registers is put away where it is called,
@@ -515,10 +515,10 @@ impl<C: Chip> ReadOnlyBus for LagBus<C> {
 
     fn peek(&self, addr: u16) -> Option<u8> {
         // Mostly a mark shows that memory alone is there, and then no timer is asked.
-        if self.late.is_unwritten_memory(addr) {
-            return Some(self.late.get(addr));
+        if self.deferred.is_unwritten_memory(addr) {
+            return Some(self.deferred.get(addr));
         }
-        if addr == 0xF3 || self.late.is_written(addr) {
+        if addr == 0xF3 || self.deferred.is_written(addr) {
             return None;
         }
         let mut io = self.time.io();
@@ -527,7 +527,7 @@ impl<C: Chip> ReadOnlyBus for LagBus<C> {
         }
         let address = io.dsp_address();
         let known = io.read(addr);
-        Some(answer_of(&self.late, address, known, addr))
+        Some(answer_of(&self.deferred, address, known, addr))
     }
 }
 
@@ -551,7 +551,7 @@ impl<C: Chip> DrainedBus for LagBus<C> {
     }
 
     fn wait(&mut self, cpu: &Cpu, samples: u32) {
-        if !self.late.is_drained() {
+        if !self.deferred.is_drained() {
             return;
         }
         let Some(iteration) = try_iteration(&*self, cpu) else {
@@ -562,15 +562,15 @@ impl<C: Chip> DrainedBus for LagBus<C> {
         let clock = self.time.clock();
         let fallen = ((clock + cycles) / CYCLES_PER_SAMPLE - clock / CYCLES_PER_SAMPLE) as u8;
         self.time.wait(cycles);
-        queue_all(&mut self.late, fallen);
+        queue_all(&mut self.deferred, fallen);
     }
 
     /// Makes the pending samples, as one batch.
     fn settle(&mut self)
         ensures { self.new ≡ after_settle C.meaning self.old }
     {
-        if self.late.pending() > 0 {
-            settle_for(&mut self.late, &mut self.counts, Cause::End);
+        if self.deferred.pending() > 0 {
+            settle_for(&mut self.deferred, &mut self.counts, Cause::End);
         }
     }
 
@@ -582,7 +582,7 @@ impl<C: Chip> DrainedBus for LagBus<C> {
         ensures all_records { self.old.machine.records ≡ records.new ++ self.new.machine.records }
         ensures none_waits { self.old.book.pending ≡ 0 → self.new.machine.records ≡ [] }
     {
-        self.late.drain(frames, records);
+        self.deferred.drain(frames, records);
         self.time.restart();
     }
 

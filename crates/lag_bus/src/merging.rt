@@ -1,7 +1,7 @@
 // Brings records of voices and the events that waited for their samples into their order.
 ghost use Rattle.std.specs.Prelude.{◌≡◌, ◌+◌, ◌≤◌, ◌++◌, [], length};
 ghost use Rattle.lag_bus.specs.Merge.{events_up_to, events_after, merge};
-ghost use Rattle.trace_form.specs.Rooms.{record_room};
+ghost use Rattle.trace_form.specs.Capacities.{record_capacity};
 ghost use Rattle.lock_step.specs.SampleNumbers.{sample_number};
 
 use lock_step::sample_number;
@@ -9,7 +9,7 @@ use trace_form::{EventRing, Records};
 
 /// Moves the events at the ring's front whose sample numbers are at most `upto`.
 fn move_events_up_to(ring: &mut EventRing, upto: u32, records: &mut Records)
-    requires { length records.old + length ring.old ≤ record_room }
+    requires { length records.old + length ring.old ≤ record_capacity }
     ensures ring { ring.new ≡ events_after upto ring.old }
     ensures records { records.new ≡ records.old ++ events_up_to upto ring.old }
     ensures all { length records.new + length ring.new ≡ length records.old + length ring.old }
@@ -25,7 +25,7 @@ fn move_events_up_to(ring: &mut EventRing, upto: u32, records: &mut Records)
 
 /// Moves all events of the ring.
 fn move_all(ring: &mut EventRing, records: &mut Records)
-    requires { length records.old + length ring.old ≤ record_room }
+    requires { length records.old + length ring.old ≤ record_capacity }
     ensures ring { ring.new ≡ [] }
     ensures records { records.new ≡ records.old ++ ring.old }
 {
@@ -36,7 +36,7 @@ fn move_all(ring: &mut EventRing, records: &mut Records)
 
 /// Adds records of voices and all events of the ring, each event before the voices of its sample number.
 pub fn merge_into(voices: &Records, ring: &mut EventRing, records: &mut Records)
-    requires { length records.old + length ring.old + length voices.now ≤ record_room }
+    requires { length records.old + length ring.old + length voices.now ≤ record_capacity }
     ensures ring { ring.new ≡ [] }
     ensures records { records.new ≡ records.old ++ merge voices.now ring.old }
 {

@@ -1,8 +1,8 @@
 // Iterations of a loop that only wait.
 ghost use Rattle.std.specs.Prelude.{◌≡◌, ◌+◌, ◌*◌, ◌≤◌};
 ghost use Rattle.ports_timers.specs.Zeros.{counter_is_0};
-ghost use Rattle.lag_bus.specs.Late.{late_with_samples};
-ghost use Rattle.trace_form.specs.Rooms.{frame_room, record_room};
+ghost use Rattle.lag_bus.specs.Deferred.{deferred_with_samples};
+ghost use Rattle.trace_form.specs.Capacities.{frame_capacity, record_capacity};
 ghost use Rattle.chip_form.specs.Limits.{max_samples_of_batch, max_samples_of_chip};
 
 use crate::deferred_chip::DeferredChip;
@@ -10,15 +10,15 @@ use chip_form::Chip;
 use ports_timers::Io;
 
 /// Counts some samples more.
-pub(crate) fn queue_all<C: Chip>(late: &mut DeferredChip<C>, fallen: u8)
-    requires few { late.old.pending + fallen ≤ max_samples_of_batch }
-    requires number { late.old.due + fallen ≤ max_samples_of_chip }
-    requires frames { late.old.frames_used + fallen ≤ frame_room }
-    requires records { late.old.records_used + 8 * fallen ≤ record_room }
-    ensures { late.new ≡ late_with_samples C.meaning late.old fallen }
+pub(crate) fn queue_all<C: Chip>(deferred: &mut DeferredChip<C>, fallen: u8)
+    requires few { deferred.old.pending + fallen ≤ max_samples_of_batch }
+    requires number { deferred.old.due + fallen ≤ max_samples_of_chip }
+    requires frames { deferred.old.frames_used + fallen ≤ frame_capacity }
+    requires records { deferred.old.records_used + 8 * fallen ≤ record_capacity }
+    ensures { deferred.new ≡ deferred_with_samples C.meaning deferred.old fallen }
 {
     'samples: for _ in 0..fallen {
-        late.queue();
+        deferred.queue();
     }
 }
 

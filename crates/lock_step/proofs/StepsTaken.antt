@@ -7,7 +7,7 @@ use Rattle.spc700_exec.specs.Instruction.{step_outcome}
 use Rattle.spc700_exec.proofs.Alike.{clock-cleared, IsAhead-step_outcome}
 use Rattle.lock_step.specs.Emits.{Emits}
 use Rattle.lock_step.specs.StepsOfRun.{AreStepsOf}
-use Rattle.idle_loops.specs.Looking.{after_n_steps}
+use Rattle.idle_loops.specs.ReadOnly.{after_n_steps}
 use Rattle.spc700_exec.specs.declared.bus.TheConstants.{CYCLES_PER_SAMPLE}
 
 pub after_no_steps : {S : Type 0} (bus : BusMeaning S) (w : Cpu × S) → after_n_steps bus 0 w ≡ w

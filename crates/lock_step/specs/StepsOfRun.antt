@@ -3,7 +3,7 @@ use Rattle.std.specs.Prelude.{◌≡◌, ◌<◌, ℕ}
 use Rattle.spc700_exec.specs.declared.cpu.Cpu.{Cpu}
 use Rattle.spc700_exec.specs.Bus.{BusMeaning}
 use Rattle.lock_step.specs.Emits.{Emits}
-use Rattle.idle_loops.specs.Looking.{after_n_steps}
+use Rattle.idle_loops.specs.ReadOnly.{after_n_steps}
 
 -- Some steps, of which none begins at the end of a run to so many samples, bring the registers to these, and the bus to this
 -- one, but for the number of its calls.

@@ -1,4 +1,4 @@
-//! That a mark gives up the checkpoints taken first, as few as leave room for one more, and never that of sample 0.
+//! Laws of marks, which drop the oldest checkpoints, as few as make room for one more, and never that of sample 0.
 #![tactic(auto)]
 
 mod laws;

@@ -1,4 +1,4 @@
-//! That muting takes voices out of the sums and does nothing else.
+//! Laws of muting, which takes voices out of the sums and does nothing else.
 #![tactic(auto)]
 
 mod laws;

@@ -1,4 +1,4 @@
-//! That volumes of muted voices aren't heard in whole runs, and that tracing voices isn't.
+//! Laws of whole runs, whose sound depends neither on the volumes of muted voices nor on which voices are traced.
 #![tactic(auto)]
 
 mod laws;

@@ -41,7 +41,7 @@ pub record IsLinked (slots : List Slot) (first free : ℕ) : Type 0 where
   pub chained : IsChain slots first free
 
 -- what a pool keeps of its slots: the list of those that were made has room for the others
-pub record IsPooled (made : List Slot) (unmade first free room : ℕ) : Type 0 where
+pub record IsPooled (made : List Slot) (unmade first free capacity : ℕ) : Type 0 where
   pub few : length made + unmade ≤ max_pages
-  pub fits : length made + unmade ≤ room
+  pub fits : length made + unmade ≤ capacity
   pub linked : IsLinked made first free

@@ -10,7 +10,7 @@ use Rattle.cut_form.specs.Marks.{room_made, mark_in, mark_at, without_oldest}
 use Rattle.player.specs.OwnMarks.{is_own_mark, with_own_mark, marks_after}
 use Rattle.player.specs.Heard.{last_multiple, HasRoomForEach}
 
--- with room nothing is given up
+-- where there is room nothing is given up
 room_kept : (most slots : ℕ) (pages : List (List ℕ)) (live : List Checkpoint) → has_room_for_one slots pages live ≡ true
     → room_made most slots pages (record { live = live; gave = 0 }) ≡ record { live = live; gave = 0 }
 room_kept zero slots pages live has = refl
@@ -20,7 +20,7 @@ room_kept (suc most) slots pages live has =
 marked_in : (slots : ℕ) (pages : List (List ℕ)) (sample : ℕ) (live : List Checkpoint) → has_room_for_one slots pages live ≡ true
     → (mark_in slots pages sample (room_made (length live - 1) slots pages (record { live = live; gave = 0 }))).live ≡ with_checkpoint live sample pages
 marked_in slots pages sample live has =
-    ap (λ room. (mark_in slots pages sample room).live) (room_kept (length live - 1) slots pages live has) ∙ rw has refl
+    ap (λ capacity. (mark_in slots pages sample capacity).live) (room_kept (length live - 1) slots pages live has) ∙ rw has refl
 
 is_there : (live : List Checkpoint) (at sample : ℕ) (pages : List (List ℕ)) → stands_at (with_checkpoint live at pages) sample ≡ (stands_at live sample || (at == sample || false))
 is_there live at sample pages = list_any-append (λ (c : Checkpoint). c.sample == sample) live (record { sample = at; pages = pages; shared = shared_with_newest live pages } ∷ [])
@@ -31,7 +31,7 @@ module _ (slots : ℕ) (pages : List (List ℕ)) (at : ℕ) (live : List Checkpo
   has_for : stands_at live at ≡ false → has_room_for_one slots pages live ≡ true
   has_for none = elim has [
     | inl here ↦ cc
-    | inr room ↦ room
+    | inr free ↦ free
   ]
 
   mark_stays : (sample : ℕ) → stands_at live sample ≡ true → stands_at (mark_at slots pages at live).live sample ≡ true
@@ -46,37 +46,37 @@ module _ (slots : ℕ) (pages : List (List ℕ)) (at : ℕ) (live : List Checkpo
     | inr none ↦ let same : (at == at) ≡ true = grind (arith, nat_tests) in rw (none, marked_in slots pages at live (has_for none), is_there live at at pages, none, same) refl
   ]
 
-module _ (room : ℕ) (memory : ℕ → List (List ℕ)) (spacing from : ℕ) (marks : List Checkpoint) where
-  own_stays : (at : ℕ) (live : List Checkpoint) (sample : ℕ) → (is_own_mark spacing at ≡ true → (stands_at live at ≡ true) ⊎ (has_room_for_one room (memory at) live ≡ true)) → stands_at live sample ≡ true
-      → stands_at (with_own_mark room memory spacing at live) sample ≡ true
+module _ (capacity : ℕ) (memory : ℕ → List (List ℕ)) (spacing from : ℕ) (marks : List Checkpoint) where
+  own_stays : (at : ℕ) (live : List Checkpoint) (sample : ℕ) → (is_own_mark spacing at ≡ true → (stands_at live at ≡ true) ⊎ (has_room_for_one capacity (memory at) live ≡ true)) → stands_at live sample ≡ true
+      → stands_at (with_own_mark capacity memory spacing at live) sample ≡ true
   own_stays at live sample has stands = elim (cases_Bool (is_own_mark spacing at)) [
-    | inl own ↦ ap (λ b. stands_at (if b then (mark_at room (memory at) at live).live else live) sample) own ∙ mark_stays room (memory at) at live (has own) sample stands
-    | inr none ↦ ap (λ b. stands_at (if b then (mark_at room (memory at) at live).live else live) sample) none ∙ stands
+    | inl own ↦ ap (λ b. stands_at (if b then (mark_at capacity (memory at) at live).live else live) sample) own ∙ mark_stays capacity (memory at) at live (has own) sample stands
+    | inr none ↦ ap (λ b. stands_at (if b then (mark_at capacity (memory at) at live).live else live) sample) none ∙ stands
   ]
 
-  pub marks_stay : (count : ℕ) → HasRoomForEach room memory spacing from marks count → (sample : ℕ) → stands_at marks sample ≡ true
-      → stands_at (marks_after room memory spacing from marks count) sample ≡ true
+  pub marks_stay : (count : ℕ) → HasRoomForEach capacity memory spacing from marks count → (sample : ℕ) → stands_at marks sample ≡ true
+      → stands_at (marks_after capacity memory spacing from marks count) sample ≡ true
   unfolding marks_after
   marks_stay zero has sample stands = stands
   marks_stay (suc count) has sample stands =
-      own_stays (from + suc count) (marks_after room memory spacing from marks count) sample (has count (omega arith))
+      own_stays (from + suc count) (marks_after capacity memory spacing from marks count) sample (has count (omega arith))
       (marks_stay count (λ k few. has k (omega (arith, few))) sample stands)
 
-  own_stands : (count : ℕ) → HasRoomForEach room memory spacing from marks count → (at : ℕ) → from < at → at ≤ from + count → is_own_mark spacing at ≡ true
-      → stands_at (marks_after room memory spacing from marks count) at ≡ true
+  own_stands : (count : ℕ) → HasRoomForEach capacity memory spacing from marks count → (at : ℕ) → from < at → at ≤ from + count → is_own_mark spacing at ≡ true
+      → stands_at (marks_after capacity memory spacing from marks count) at ≡ true
   unfolding marks_after
   own_stands zero has at later within own = absurd (omega (arith, later, within))
   own_stands (suc count) has at later within own = elim (cases_Bool (at == from + suc count)) [
     | inl last ↦
         let same : at ≡ from + suc count = grind (arith, nat_tests, last) in
-        let live = marks_after room memory spacing from marks count in
+        let live = marks_after capacity memory spacing from marks count in
         let here : is_own_mark spacing (from + suc count) ≡ true = ap (is_own_mark spacing) (sym same) ∙ own in
-        ap (λ n. stands_at (with_own_mark room memory spacing (from + suc count) live) n) same
-        ∙ ap (λ b. stands_at (if b then (mark_at room (memory (from + suc count)) (from + suc count) live).live else live) (from + suc count)) here
-        ∙ mark_taken room (memory (from + suc count)) (from + suc count) live (has count (omega arith) here)
+        ap (λ n. stands_at (with_own_mark capacity memory spacing (from + suc count) live) n) same
+        ∙ ap (λ b. stands_at (if b then (mark_at capacity (memory (from + suc count)) (from + suc count) live).live else live) (from + suc count)) here
+        ∙ mark_taken capacity (memory (from + suc count)) (from + suc count) live (has count (omega arith) here)
     | inr before ↦
         let other : at ≤ from + count = grind (arith, nat_tests, before, within) in
-        own_stays (from + suc count) (marks_after room memory spacing from marks count) at (has count (omega arith))
+        own_stays (from + suc count) (marks_after capacity memory spacing from marks count) at (has count (omega arith))
         (own_stands count (λ k few. has k (omega (arith, few))) at later other own)
   ]
 
@@ -96,32 +96,32 @@ same_multiple spacing from at some before behind =
     let rest : from % spacing ≡ from - last_multiple spacing at = ap (λ n. n % spacing) parts ∙ mod-mul-add (at / spacing) spacing (from - last_multiple spacing at) within in
     omega (arith, rest, behind)
 
-pub heard_is_near : (room : ℕ) (memory : ℕ → List (List ℕ)) (spacing from : ℕ) (marks : List Checkpoint) (count : ℕ) → HasRoomForEach room memory spacing from marks count
+pub heard_is_near : (capacity : ℕ) (memory : ℕ → List (List ℕ)) (spacing from : ℕ) (marks : List Checkpoint) (count : ℕ) → HasRoomForEach capacity memory spacing from marks count
     → 0 < spacing → stands_at marks (last_multiple spacing from) ≡ true → (at : ℕ) → from ≤ at → at ≤ from + count
-    → (stands_at (marks_after room memory spacing from marks count) (last_multiple spacing at) ≡ true) × (at < last_multiple spacing at + spacing)
-heard_is_near room memory spacing from marks count has some stands at later within =
+    → (stands_at (marks_after capacity memory spacing from marks count) (last_multiple spacing at) ≡ true) × (at < last_multiple spacing at + spacing)
+heard_is_near capacity memory spacing from marks count has some stands at later within =
     let near : at < last_multiple spacing at + spacing = omega (arith, some) in
     elim (cases_Bool (nat_le (last_multiple spacing at) from)) [
       | inl behind ↦
           let up_to : last_multiple spacing at ≤ from = grind (arith, nat_tests, behind) in
-          (marks_stay room memory spacing from marks count has (last_multiple spacing at) (ap (stands_at marks) (sym (same_multiple spacing from at some later up_to)) ∙ stands), near)
+          (marks_stay capacity memory spacing from marks count has (last_multiple spacing at) (ap (stands_at marks) (sym (same_multiple spacing from at some later up_to)) ∙ stands), near)
       | inr ahead ↦
           let beyond : from < last_multiple spacing at = grind (arith, nat_tests, ahead) in
-          (own_stands room memory spacing from marks count has (last_multiple spacing at) beyond (omega (arith, within)) (multiple_is_own spacing at some), near)
+          (own_stands capacity memory spacing from marks count has (last_multiple spacing at) beyond (omega (arith, within)) (multiple_is_own spacing at some), near)
     ]
 
-pub heard_from_a_mark : (room : ℕ) (memory : ℕ → List (List ℕ)) (spacing from : ℕ) (marks : List Checkpoint) (count : ℕ) → HasRoomForEach room memory spacing from marks count
+pub heard_from_a_mark : (capacity : ℕ) (memory : ℕ → List (List ℕ)) (spacing from : ℕ) (marks : List Checkpoint) (count : ℕ) → HasRoomForEach capacity memory spacing from marks count
     → 0 < spacing → (mark : ℕ) → stands_at marks mark ≡ true → last_multiple spacing from ≤ mark → mark ≤ from
     → (at : ℕ) → from ≤ at → at ≤ from + count
-    → (stands_at (marks_after room memory spacing from marks count) (max mark (last_multiple spacing at)) ≡ true)
+    → (stands_at (marks_after capacity memory spacing from marks count) (max mark (last_multiple spacing at)) ≡ true)
     × (max mark (last_multiple spacing at) ≤ at) × (at < max mark (last_multiple spacing at) + spacing)
-heard_from_a_mark room memory spacing from marks count has some mark stands late up_to at later within =
+heard_from_a_mark capacity memory spacing from marks count has some mark stands late up_to at later within =
     let near : at < last_multiple spacing at + spacing = omega (arith, some) in
     elim (cases_Bool (nat_le (last_multiple spacing at) mark)) [
       | inl behind ↦
           let before : last_multiple spacing at ≤ mark = grind (arith, nat_tests, behind) in
           let same : max mark (last_multiple spacing at) ≡ mark = omega (arith, before) in (
-            ap (stands_at (marks_after room memory spacing from marks count)) same ∙ marks_stay room memory spacing from marks count has mark stands,
+            ap (stands_at (marks_after capacity memory spacing from marks count)) same ∙ marks_stay capacity memory spacing from marks count has mark stands,
             omega (arith, same, up_to, later),
             omega (arith, same, before, near),
           )
@@ -135,8 +135,8 @@ heard_from_a_mark room memory spacing from marks count has some mark stands late
             | inr high ↦ grind (arith, nat_tests, high)
           ] in
           let is_up_to : last_multiple spacing at ≤ at = omega arith in (
-            ap (stands_at (marks_after room memory spacing from marks count)) same
-                ∙ own_stands room memory spacing from marks count has (last_multiple spacing at) beyond (omega (arith, within)) (multiple_is_own spacing at some),
+            ap (stands_at (marks_after capacity memory spacing from marks count)) same
+                ∙ own_stands capacity memory spacing from marks count has (last_multiple spacing at) beyond (omega (arith, within)) (multiple_is_own spacing at some),
             omega (arith, same, is_up_to),
             omega (arith, same, near),
           )

@@ -6,7 +6,7 @@ use Rattle.player.specs.Player.{PlayerState, KeepsPlayer}
 
 module _ {S V : Type 0} (chip : ChipMeaning S) (saving : ChipSaving S V) where
   pub keeps_none : (player : PlayerState S V) → KeepsPlayer chip saving player player
-  keeps_none player = record { start = refl; frames = refl; memory = refl; chips = refl; file = refl; room = refl; spacing = refl; end = refl }
+  keeps_none player = record { start = refl; frames = refl; memory = refl; chips = refl; file = refl; capacity = refl; spacing = refl; end = refl }
 
   pub keeps_both : (first next last : PlayerState S V) → KeepsPlayer chip saving first next → KeepsPlayer chip saving next last → KeepsPlayer chip saving first last
   keeps_both first next last one two = record {
@@ -15,7 +15,7 @@ module _ {S V : Type 0} (chip : ChipMeaning S) (saving : ChipSaving S V) where
     memory = two.memory ∙ one.memory;
     chips = two.chips ∙ one.chips;
     file = two.file ∙ one.file;
-    room = two.room ∙ one.room;
+    capacity = two.capacity ∙ one.capacity;
     spacing = two.spacing ∙ one.spacing;
     end = two.end ∙ one.end;
   }

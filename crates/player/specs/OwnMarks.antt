@@ -17,11 +17,11 @@ abbrev pub is_own_mark : (spacing at : ℕ) → Bool
 is_own_mark spacing at = not (spacing == 0) && at % spacing == 0
 
 -- the marks once the position has come to a sample. `memory` are the pages of the memory once so many samples are made
-abbrev pub with_own_mark : (room : ℕ) → (memory : ℕ → List (List ℕ)) → (spacing at : ℕ) → List Checkpoint → List Checkpoint
-with_own_mark room memory spacing at marks = if is_own_mark spacing at then (mark_at room (memory at) at marks).live else marks
+abbrev pub with_own_mark : (capacity : ℕ) → (memory : ℕ → List (List ℕ)) → (spacing at : ℕ) → List Checkpoint → List Checkpoint
+with_own_mark capacity memory spacing at marks = if is_own_mark spacing at then (mark_at capacity (memory at) at marks).live else marks
 
 -- the marks once so many frames from a sample on were played, one after another
-unfoldable pub marks_after : (room : ℕ) → (memory : ℕ → List (List ℕ)) → (spacing from : ℕ) → List Checkpoint → (count : ℕ) → List Checkpoint
-marks_after room memory spacing from marks zero = marks
-marks_after room memory spacing from marks (suc count) =
-    with_own_mark room memory spacing (from + suc count) (marks_after room memory spacing from marks count)
+unfoldable pub marks_after : (capacity : ℕ) → (memory : ℕ → List (List ℕ)) → (spacing from : ℕ) → List Checkpoint → (count : ℕ) → List Checkpoint
+marks_after capacity memory spacing from marks zero = marks
+marks_after capacity memory spacing from marks (suc count) =
+    with_own_mark capacity memory spacing (from + suc count) (marks_after capacity memory spacing from marks count)

@@ -48,17 +48,17 @@ chip_here chip saving player = chip_of chip saving player (position_of player)
 abbrev pub marks_of : {S V : Type 0} → PlayerState S V → List Checkpoint
 marks_of player = (book_of player.server).live
 
-abbrev pub room_of : {S V : Type 0} → PlayerState S V → ℕ
-room_of player = slots_of player.server
+abbrev pub pool_capacity : {S V : Type 0} → PlayerState S V → ℕ
+pool_capacity player = slots_of player.server
 
 -- a mark at the position: the marks that it leaves, and what it answers
 abbrev pub marking : {S V : Type 0} → ChipMeaning S → ChipSaving S V → PlayerState S V → MarkOutcome
-marking chip saving player = mark_here (room_of player) (memory_of chip saving player) (book_of player.server)
+marking chip saving player = mark_here (pool_capacity player) (memory_of chip saving player) (book_of player.server)
 
 -- the marks once so many frames more are played
 abbrev pub marks_played : {S V : Type 0} → ChipMeaning S → ChipSaving S V → PlayerState S V → (count : ℕ) → List Checkpoint
 marks_played chip saving player count =
-    marks_after (room_of player) (memory_of chip saving player) player.spacing (position_of player) (marks_of player) count
+    marks_after (pool_capacity player) (memory_of chip saving player) player.spacing (position_of player) (marks_of player) count
 
 -- the frames that its seeks and plays made, and those that a seek would make: from the position, or from the last mark up to it
 abbrev pub made_of : {S V : Type 0} → PlayerState S V → ℕ
@@ -100,7 +100,7 @@ pub record KeepsPlayer {S V : Type 0} (chip : ChipMeaning S) (saving : ChipSavin
   pub memory : memory_of chip saving new ≡ memory_of chip saving old
   pub chips : chip_of chip saving new ≡ chip_of chip saving old
   pub file : new.file ≡ old.file
-  pub room : room_of new ≡ room_of old
+  pub capacity : pool_capacity new ≡ pool_capacity old
   pub spacing : new.spacing ≡ old.spacing
   pub end : new.end ≡ old.end
 
@@ -112,6 +112,6 @@ pub record IsRestarted {S V : Type 0} (chip : ChipMeaning S) (saving : ChipSavin
   pub marks : marks_of new ≡ with_checkpoint [] 0 (memory_of chip saving new 0)
   pub made : made_of new ≡ count_after (made_of old) (position_of old)
   pub file : new.file ≡ old.file
-  pub room : room_of new ≡ room_of old
+  pub capacity : pool_capacity new ≡ pool_capacity old
   pub spacing : new.spacing ≡ old.spacing
   pub end : new.end ≡ old.end

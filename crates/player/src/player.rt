@@ -11,7 +11,7 @@ ghost use Rattle.cut_server.specs.ServerState.{book_of};
 ghost use Rattle.spc_form.specs.Tags.{field_size, length_of, text_of, has_tags, max_length_of_tags};
 ghost use Rattle.player.specs.Output.{stereo, with_text};
 ghost use Rattle.player.specs.OwnMarks.{max_mark_seconds, spacing_of, with_own_mark};
-ghost use Rattle.player.specs.Player.{frames_of, memory_of, position_of, chip_here, marks_of, room_of, marking, marks_played, made_of};
+ghost use Rattle.player.specs.Player.{frames_of, memory_of, position_of, chip_here, marks_of, pool_capacity, marking, marks_played, made_of};
 ghost use Rattle.player.specs.Player.{frames_sought, sought_some, SeekIsNear, faded_frames_played, opening_of, IsOver, IsRestarted, KeepsPlayer};
 
 use crate::output::{StereoFrame, fade_frames, put_frames, put_text};
@@ -47,15 +47,15 @@ impl<C: Chip> Model for Player<C> {
     ghost invariant = { λ p. (length p.frames ≡ MAX_AT_ONCE) × (p.end.frames ≤ max_frames) × (p.end.fade ≤ p.end.frames) };
 }
 
-/// Plays so many frames through a room, and puts them into others from a place on.
+/// Plays so many frames through a buffer, and puts them into others from a place on.
 fn play_through<C: Chip>(
     server: &mut CutServer<C>,
-    room: &mut [Frame],
+    buffer: &mut [Frame],
     count: usize,
     out: &mut [StereoFrame],
     from: usize,
 )
-    requires room { count ≤ length room.old }
+    requires room { count ≤ length buffer.old }
     requires within { from + count ≤ length out.old }
     requires hour { (book_of server.old).position + count ≤ max_frames }
     ensures frames { let played = slice_of (frames_to C.meaning C.saving server.old) (book_of server.old).position count in
@@ -63,8 +63,8 @@ fn play_through<C: Chip>(
     ensures book { book_of server.new ≡ counted_book (after_play (book_of server.old) count) }
     ensures tune { KeepsTune C.meaning C.saving server.old server.new }
 {
-    server.play_into(&mut room[..count]);
-    put_frames(&room[..count], out, from);
+    server.play_into(&mut buffer[..count]);
+    put_frames(&buffer[..count], out, from);
 }
 
 impl<C: Chip> Player<C> {
@@ -143,7 +143,7 @@ impl<C: Chip> Player<C> {
 
     /// How many pages are free for marks.
     pub fn free_pages(&self) -> u32
-        ensures { result ≡ slots_free (room_of self.now) (marks_of self.now) }
+        ensures { result ≡ slots_free (pool_capacity self.now) (marks_of self.now) }
     {
         self.server.free()
     }
@@ -227,7 +227,7 @@ impl<C: Chip> Player<C> {
     /// Takes a mark by itself, where one is due at the position.
     fn take_own_mark(&mut self)
         ensures marks { let pages = memory_of C.meaning C.saving self.old in
-            marks_of self.new ≡ with_own_mark (room_of self.old) pages self.old.spacing (position_of self.old) (marks_of self.old) }
+            marks_of self.new ≡ with_own_mark (pool_capacity self.old) pages self.old.spacing (position_of self.old) (marks_of self.old) }
         ensures position { position_of self.new ≡ position_of self.old }
         ensures made { made_of self.new ≡ made_of self.old }
         ensures tune { KeepsPlayer C.meaning C.saving self.old self.new }

@@ -27,7 +27,7 @@ Becomes P None new = ⊥
 Becomes P (Some old) None = ⊥
 Becomes P (Some old) (Some new) = P old new
 
--- It has come to a position, has these marks and has made so many frames; its tune, its file, its room, its spacing and its end are the same.
+-- It has come to a position, has these marks and has made so many frames; its tune, its file, its pool's capacity, its spacing and its end are the same.
 abbrev pub Moved : (at : SpcPlayer → ℕ) → (marks : SpcPlayer → List Checkpoint) → (made : SpcPlayer → ℕ) → (old new : Option SpcPlayer) → Type 0
 Moved at marks made = Becomes (λ old new. KeepsPlayer old new × (position_of new ≡ at old) × (marks_of new ≡ marks old) × (made_of new ≡ made old))
 

@@ -3,7 +3,7 @@ ghost use Rattle.std.specs.Prelude.{◌≡◌, ◌≢◌, ◌≤◌, nat_lt, IfS
 ghost use Rattle.cut_form.specs.Checkpoints.{slots_free};
 ghost use Rattle.spc_form.specs.Tags.{length_of, has_tags};
 ghost use Rattle.player.specs.Output.{with_text};
-ghost use Rattle.player.specs.Player.{position_of, marks_of, room_of};
+ghost use Rattle.player.specs.Player.{position_of, marks_of, pool_capacity};
 ghost use Rattle.spc_player.specs.Player.{chip_here};
 ghost use Rattle.spc_player.specs.Voices.{shown_voice};
 ghost use Rattle.player_c.specs.Handle.{playing, IsOpen};
@@ -38,7 +38,7 @@ pub extern "C" fn spcwave_position(player: &mut SpcwavePlayer) -> u32
 #[unsafe(no_mangle)]
 pub extern "C" fn spcwave_free_pages(player: &mut SpcwavePlayer) -> u32
     requires { IsOpen player.old }
-    ensures free { IfSome (playing player.old) (λ p. result ≡ slots_free (room_of p) (marks_of p)) }
+    ensures free { IfSome (playing player.old) (λ p. result ≡ slots_free (pool_capacity p) (marks_of p)) }
     ensures same { playing player.new ≡ playing player.old }
 {
     player.owned.player().free_pages()

@@ -7,22 +7,22 @@ use Rattle.std.proofs.lemmas.Bool.Decides.{nat_tests}
 use Rattle.rate_clock.specs.Counter.{counter_at, periods, offsets, fires, until_fires, IsQuiet}
 use Rattle.rate_clock.proofs.Tables.{list_all-entry, period_positive}
 
--- each period divides the round of the counter
-divides-round : (rate : ℕ) → 0 < rate → rate < 32 → slice_index periods rate * (30720 / slice_index periods rate) ≡ 30720
-divides-round zero positive within = absurd (omega arith)
-divides-round (suc r) positive within =
+-- each period divides the range of the counter
+divides-range : (rate : ℕ) → 0 < rate → rate < 32 → slice_index periods rate * (30720 / slice_index periods rate) ≡ 30720
+divides-range zero positive within = absurd (omega arith)
+divides-range (suc r) positive within =
     let test : (get_or (drop 1 periods) r 0 * (30720 / get_or (drop 1 periods) r 0) == 30720) ≡ true =
     list_all-entry (λ x. x * (30720 / x) == 30720) (drop 1 periods) r (omega arith) refl in
     grind (arith, nat_tests)
 
--- the counter falls by 1 a sample, but for whole rounds
+-- the counter falls by 1 a sample, modulo its range
 falls : (k j : ℕ) → counter_at (k + j) + j + 30720 * (k / 30720) ≡ counter_at k + 30720 * ((k + j) / 30720)
 falls k j = omega arith
 
-rounds : (k j : ℕ) → k / 30720 ≤ (k + j) / 30720
-rounds k j = omega arith
+wraps : (k j : ℕ) → k / 30720 ≤ (k + j) / 30720
+wraps k j = omega arith
 
--- numbers that fall from x to y by j and rise by whole rounds
+-- numbers that fall from x to y by j, modulo the range
 rest_falls : (p q x y j m r d : ℕ) → p * q ≡ 30720 → x ≡ p * m + r → r < p → j ≤ r → y + j ≡ x + 30720 * d → y % p ≡ r - j
 rest_falls p q x y j m r d whole parts small within fall =
     let turned : 30720 * d ≡ q * d * p = rw (← whole) (omega arith) in
@@ -33,8 +33,8 @@ rest_falls p q x y j m r d whole parts small within fall =
 rest_at : (rate k j : ℕ) → 0 < rate → rate < 32 → j ≤ until_fires rate (counter_at k) → until_fires rate (counter_at (k + j)) ≡ until_fires rate (counter_at k) - j
 rest_at rate k j positive within few =
     rest_falls p (30720 / p) x (counter_at (k + j) + offset) j (x / p) (x % p) ((k + j) / 30720 - k / 30720)
-    (divides-round rate positive within) (sym (div-add-mod x p)) (mod_below x p (period_positive rate positive within)) few
-    (omega (arith, falls k j, rounds k j))
+    (divides-range rate positive within) (sym (div-add-mod x p)) (mod_below x p (period_positive rate positive within)) few
+    (omega (arith, falls k j, wraps k j))
   where
     p : ℕ
     p = slice_index periods rate
@@ -82,8 +82,8 @@ rest_after p q x y m d whole positive parts fall =
 until_after : (rate k : ℕ) → 0 < rate → rate < 32 → until_fires rate (counter_at k) ≡ 0 → until_fires rate (counter_at (k + 1)) ≡ slice_index periods rate - 1
 until_after rate k positive within now =
     rest_after p (30720 / p) x (counter_at (k + 1) + offset) (x / p) ((k + 1) / 30720 - k / 30720)
-    (divides-round rate positive within) (period_positive rate positive within) (omega (arith, div-add-mod x p, now))
-    (omega (arith, falls k 1, rounds k 1))
+    (divides-range rate positive within) (period_positive rate positive within) (omega (arith, div-add-mod x p, now))
+    (omega (arith, falls k 1, wraps k 1))
   where
     p : ℕ
     p = slice_index periods rate

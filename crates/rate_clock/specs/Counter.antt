@@ -2,13 +2,13 @@
 use Rattle.std.specs.Prelude.{◌≡◌, ℕ, zero, suc, ◌+◌, ◌%◌, ◌<◌, List, [], ◌∷◌, Bool, false, ◌&&◌, ◌==◌, nat_lt, pos, negsuc, unsigned_abs, slice_index}
 use Rattle.std.specs.Int.{int_rem_euclid}
 
--- the samples in which the counter comes round
-abbrev pub counter_round : ℕ
-counter_round = 30720
+-- after so many samples the counter wraps around
+abbrev pub counter_range : ℕ
+counter_range = 30720
 
--- the counter while sample number k is made: it falls by 1 a sample, and below 0 it goes on from the round's end
+-- the counter while sample number k is made: it falls by 1 a sample, and below 0 it wraps around
 abbrev pub counter_at : ℕ → ℕ
-counter_at k = unsigned_abs (int_rem_euclid (negsuc k) (pos counter_round))
+counter_at k = unsigned_abs (int_rem_euclid (negsuc k) (pos counter_range))
 
 -- the counter once n samples are made: 0 before the first, and then that of the last
 abbrev pub counter_after : ℕ → ℕ

@@ -1,11 +1,11 @@
 -- What a clock holds beside its counter, so that a rate is tested without a division.
 use Rattle.std.specs.Prelude.{◌≡◌, ℕ, ◌+◌, ◌%◌, ◌<◌, ◌==◌, if◌then◌else◌}
 use Rattle.rate_clock.specs.declared.clock.RateClock.TheInside.{Inside}
-use Rattle.rate_clock.specs.Counter.{counter_round}
+use Rattle.rate_clock.specs.Counter.{counter_range}
 
 -- what holds of the fields of each clock
 pub record IsClock (c : Inside) : Type 0 where
-  pub within : c.counter < counter_round
+  pub within : c.counter < counter_range
   pub thirds : c.thirds ≡ (c.counter + 1040) % 3
   pub fifths : c.fifths ≡ (c.counter + 536) % 5
 

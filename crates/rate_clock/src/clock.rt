@@ -1,13 +1,13 @@
 //! The counter that all rates look at.
 
 ghost use Rattle.std.specs.Prelude.{◌≡◌, ℕ, ◌+◌, ◌-◌, ◌%◌, ◌==◌, ◌<◌, ◌≤◌, true, if◌then◌else◌};
-ghost use Rattle.rate_clock.specs.Counter.{counter_round, counter_at, counter_after, fires, until_fires, IsQuiet};
+ghost use Rattle.rate_clock.specs.Counter.{counter_range, counter_at, counter_after, fires, until_fires, IsQuiet};
 ghost use Rattle.rate_clock.specs.Inside.{rest_at};
 
 use std::marker::Model;
 
-/// The samples in which the counter comes round.
-const COUNTER_ROUND: u16 = 30720;
+/// After so many samples the counter wraps around.
+const COUNTER_RANGE: u16 = 30720;
 
 /// The offset of the rates whose period is three times a power of 2.
 const THIRDS: u16 = 1040;
@@ -93,10 +93,10 @@ impl RateClock {
 
     /// Goes on to the next sample.
     pub fn step(&mut self)
-        ensures falls { self.new ≡ (if self.old == 0 then counter_round - 1 else self.old - 1) }
+        ensures falls { self.new ≡ (if self.old == 0 then counter_range - 1 else self.old - 1) }
         ensures counts { (n : ℕ) → self.old ≡ counter_after n → self.new ≡ counter_after (n + 1) }
     {
-        self.counter = number_before(self.counter, COUNTER_ROUND);
+        self.counter = number_before(self.counter, COUNTER_RANGE);
         self.thirds = number_before(u16::from(self.thirds), 3) as u8;
         self.fifths = number_before(u16::from(self.fifths), 5) as u8;
     }
@@ -108,7 +108,7 @@ impl RateClock {
     {
         let way = u16::from(samples);
         let counter = if self.counter < way {
-            self.counter + COUNTER_ROUND - way
+            self.counter + COUNTER_RANGE - way
         } else {
             self.counter - way
         };

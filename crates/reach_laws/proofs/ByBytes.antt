@@ -85,7 +85,7 @@ place-next_echo echo at regs memory offset length = (rw (offset, length) refl, r
 apart_from_same : (a b at : ℕ) → a ≡ b → IsApartFromCell b at → IsApartFromCell a at
 apart_from_same a b at same off = rw same off
 
--- After j samples from a start, over a memory: the registers but those of results are as they were, no key-on waits that did not wait, the echo
+-- After j samples from a start, over a memory: the registers but those of results are as they were, no key-on is pending that was not, the echo
 -- is j cells further, the bytes off these cells are as they were, and the voices are on their chains.
 pub record StaysByBytes (start : ChipState) (before : List ℕ) (j : ℕ) (s : ChipState) (memory : List ℕ) : Type 0 where
   pub inputs : SameInputs s.registers start.registers

@@ -1,4 +1,4 @@
--- A key-on that is taken has waited, and no sample lets more key-ons wait.
+-- A key-on that is latched was pending, and no sample makes more key-ons pending.
 use Rattle.std.proofs.Common.{◌≡◌, ℕ, ◌-◌, ◌%◌, ◌<◌, ◌==◌, min, Bool, true, false, bit_and, if◌then◌else◌, arith}
 use Rattle.std.proofs.lemmas.Bool.Decides.{nat_tests}
 use Rattle.std.proofs.lemmas.Nat.Bits.{bit_at_and, bit_at-lt}
@@ -23,7 +23,7 @@ is_part-bit_and a b v h =
 is_part-without_bits : (byte bits : ℕ) → IsPart (without_bits byte bits) byte
 is_part-without_bits byte bits = is_part-bit_and byte (0xff - bits)
 
--- the poll and the noise let no more key-ons wait
+-- the poll and the noise make no more key-ons pending
 pub kon_pending-before_voices : (s : ChipState) (k : ℕ) → IsPart (before_voices s k).hidden.kon_pending s.hidden.kon_pending
 unfolding after_poll after_noise
 kon_pending-before_voices s k = by (k % 2 == 0)
@@ -35,7 +35,7 @@ kon_pending-before_voices s k = by (k % 2 == 0)
     by true = is_part-without_bits s.hidden.kon_pending s.hidden.kon_latched
     by false = λ v h. h
 
--- a key-on that a poll takes has waited
+-- a key-on that a poll latches was pending
 pub latched_was_pending : (s : ChipState) (k v : ℕ) → (k % 2 == 0) ≡ true → has_bit (before_voices s k).hidden.kon_latched v ≡ true → has_bit s.hidden.kon_pending v ≡ true
 unfolding after_poll after_noise
 latched_was_pending s k v even h = is_part-without_bits s.hidden.kon_pending s.hidden.kon_latched v (rw even at h)

@@ -1,5 +1,5 @@
 -- Registers: samples leave every register but those of their results.
--- Keys: a key-on that is taken has waited.
+-- Keys: a key-on that is latched was pending.
 -- EchoPlace: where the echo stands after samples.
 -- EchoPages: a step of the echo reads and writes one cell, on a page of its window.
 -- ReachOfChip: what the reach says of the pages of the voices and of the window.

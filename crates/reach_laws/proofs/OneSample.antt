@@ -31,8 +31,8 @@ use Rattle.reach_laws.proofs.EchoPages.{apart_from_window, after_reading_apart, 
 use Rattle.reach_laws.proofs.ReachOfChip.{pages_of_echo, writes_echo, unread_by_voices, unread_by_echo, unwritten_by_echo, voices_unwritten}
 use Rattle.reach_laws.proofs.Voices.{FindTheSame, all_same, voices_at_start, voices_stay, voices_apart}
 
--- After j samples from a start, over a memory: the registers but those of results are as they were, no key-on waits that did
--- not wait, the echo stands at a cell of the window, and the bytes off the write pages are as they were. Where the reach of
+-- After j samples from a start, over a memory: the registers but those of results are as they were, no key-on is pending that
+-- was not, the echo stands at a cell of the window, and the bytes off the write pages are as they were. Where the reach of
 -- the start isn't entangled, the voices are on their chains.
 pub record StaysInReach (start : ChipState) (before : List ℕ) (j : ℕ) (s : ChipState) (memory : List ℕ) : Type 0 where
   pub inputs : SameInputs s.registers start.registers

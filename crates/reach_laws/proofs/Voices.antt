@@ -60,7 +60,7 @@ rest_in memory starts rest entry entries p h =
     ]
 
 -- What the voices from v on find after j samples as it was when the reach was taken: the registers but those that samples write,
--- the bytes where they can look, and key-ons of no voice but those that waited.
+-- the bytes where they can look, and key-ons of no voice but those that were pending.
 pub record FindTheSame (s : ChipState) (memory : List ℕ) (j v : ℕ) (olds : List VoiceState) (shared : SharedInput) : Type 0 where
   pub registers : (address : ℕ) → is_result address ≡ false → slice_index shared.registers address ≡ slice_index s.registers address
   pub bytes : AllSameFor s memory j v olds shared.memory memory

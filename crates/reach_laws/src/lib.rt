@@ -1,4 +1,4 @@
-//! That the S-DSP keeps to its reach: what its next 64 samples read and write lies on the pages of the reach taken before them.
+//! Laws by which the S-DSP keeps to its reach: what its next 64 samples read and write lies on the pages of the reach taken before them.
 #![tactic(auto)]
 
 mod laws;

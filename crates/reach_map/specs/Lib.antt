@@ -1,4 +1,4 @@
--- Window: a part of memory that may go round its end, and the one in which the echo buffer lies.
+-- Window: a part of memory that may wrap at its end, and the one in which the echo buffer lies.
 pub mod Window
 -- Reach: the pages that the samples to come can read and write.
 pub mod Reach

@@ -11,7 +11,7 @@ use Rattle.spc700_exec.proofs.Short.{IsShort-script}
 use Rattle.lock_step.specs.Emits.{Emits, IsCountedOn, IsCounting, IsBeside}
 use Rattle.lock_step.proofs.ChipCounts.{counts_on_none, counts_on_then, counts_on_same}
 use Rattle.lock_step.specs.StepsOfRun.{AreStepsOf}
-use Rattle.idle_loops.specs.Looking.{after_n_steps}
+use Rattle.idle_loops.specs.ReadOnly.{after_n_steps}
 use Rattle.render_core.specs.MachineRun.{Whole}
 use Rattle.render_core.proofs.ItemsBeforeRun.{due-cleared}
 use Rattle.spc700_exec.specs.declared.bus.TheConstants.{CYCLES_PER_SAMPLE}

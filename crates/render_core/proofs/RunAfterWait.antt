@@ -13,7 +13,7 @@ use Rattle.render_core.specs.BetweenSteps.{RunsAlike}
 use Rattle.render_core.proofs.RunBySteps.{after_run-next}
 use Rattle.render_core.proofs.ItemsBeforeRun.{items-after_run-drained, end-after_run-drained}
 use Rattle.render_core.proofs.CountedSteps.{counted-steps}
-use Rattle.idle_loops.specs.Looking.{after_n_steps}
+use Rattle.idle_loops.specs.ReadOnly.{after_n_steps}
 use Rattle.lock_step.specs.WaitOfIterations.{IsWaitOf}
 use Rattle.lock_step.specs.StepsOfRun.{AreStepsOf}
 use Rattle.spc700_exec.specs.declared.bus.TheConstants.{CYCLES_PER_SAMPLE}

@@ -51,7 +51,7 @@ pub(crate) struct Lists {
 impl Lists {
     ghost use Rattle.std.specs.Prelude.{IfOk};
 
-    /// Empty lists, with all their room.
+    /// Empty lists, with all their capacity.
     pub(crate) fn reserve(alloc: Global) -> Result<Lists, OutOfMemory>
         ensures frames { IfOk result (λ lists. lists.frames ≡ []) }
         ensures records { IfOk result (λ lists. lists.records ≡ []) }
@@ -69,8 +69,8 @@ impl Lists {
 /// The longest pause between two trials.
 const LONGEST_TRIAL_PAUSE: u8 = 63;
 
-/// How long no iterations are tried, in fillings of the bus's room for calls. After a trial by which no sample fell due it is twice as long as before and
-/// one more, up to the longest one.
+/// How long no iterations are tried, in multiples of the calls that the bus has room for. After a trial by which no sample fell due it is twice as long
+/// as before and one more, up to the longest one.
 #[derive(Drop)]
 pub(crate) struct TrialPause {
     left: u8,

@@ -2,7 +2,7 @@
 ghost use Rattle.std.specs.Prelude.{◌≡◌, ◌+◌, ◌-◌, ◌<◌, ◌≤◌, [], length, true, false, IfOk};
 ghost use Rattle.std.specs.Borrow.{sem};
 ghost use Rattle.std.specs.Io.BufRead.{Rests};
-ghost use Rattle.trace_form.specs.Rooms.{frame_room, record_room};
+ghost use Rattle.trace_form.specs.Capacities.{frame_capacity, record_capacity};
 ghost use Rattle.num_fix.specs.Limits.{max_frames};
 ghost use Rattle.lock_step.specs.LockStep.{samples_due};
 ghost use Rattle.lag_bus.specs.Lagging.{MatchesBook};
@@ -81,8 +81,8 @@ fn piece_of<C: Chip>(render: &Render<C>, done: bool) -> Piece<'_>
     ensures frames { result.frames.now ≡ render.now.frames }
     ensures records { result.records.now ≡ render.now.records }
     ensures done { result.done ≡ done }
-    ensures few_frames { length result.frames.now ≤ frame_room }
-    ensures few_records { length result.records.now ≤ record_room }
+    ensures few_frames { length result.frames.now ≤ frame_capacity }
+    ensures few_records { length result.records.now ≤ record_capacity }
 {
     Piece {
         frames: render.lists.frames.as_slice(),
@@ -93,7 +93,7 @@ fn piece_of<C: Chip>(render: &Render<C>, done: bool) -> Piece<'_>
 
 impl<C: Chip> Render<C> {
     /// A render of so many samples of a file, over a chip that stands at sample 0 and has made no batch. It emits the records of
-    /// the voices in the mask; bit v of the mask is voice v. All room is made here, and no later call takes memory.
+    /// the voices in the mask; bit v of the mask is voice v. All memory is allocated here, and no later call takes memory.
     pub fn open(
         alloc: Global,
         file: &SpcFile,
@@ -134,8 +134,8 @@ impl<C: Chip> Render<C> {
         ensures* next { sem 𝓛 (Rests (the_row C.row C.State.row C.Saved.row C.Chip) self.entry
             (λ new. IsNextPiece C.meaning self.old new result.frames.now result.records.now result.done)) }
         ensures some { result.done ≡ false → 0 < length result.frames.now + length result.records.now }
-        ensures few_frames { length result.frames.now ≤ frame_room }
-        ensures few_records { length result.records.now ≤ record_room }
+        ensures few_frames { length result.frames.now ≤ frame_capacity }
+        ensures few_records { length result.records.now ≤ record_capacity }
     {
         let done = self.make_next();
         piece_of(self, done)

@@ -7,7 +7,7 @@ use Rattle.wav_form.specs.Wave.{frame_bytes, frame_size}
 use Rattle.trace_form.specs.declared.record.Record.{Record}
 use Rattle.trace_form.specs.declared.text.TheConstants.{LINE_SIZE}
 use Rattle.trace_form.specs.Line.{lines_of}
-use Rattle.trace_form.specs.Rooms.{frame_room, record_room}
+use Rattle.trace_form.specs.Capacities.{frame_capacity, record_capacity}
 use Rattle.spc700_exec.specs.declared.bus.TheConstants.{CYCLES_PER_SAMPLE}
 use Rattle.chip_form.specs.ChipMeaning.{ChipMeaning}
 use Rattle.render_core.specs.RenderState.{RenderState, frames_to_come, records_to_come, counts_to_come}
@@ -21,11 +21,11 @@ stereo_size = frame_size 2
 
 -- the bytes of the most frames that a piece has
 abbrev pub max_bytes_of_frames : ℕ
-max_bytes_of_frames = stereo_size * frame_room
+max_bytes_of_frames = stereo_size * frame_capacity
 
 -- the bytes of the most lines that it has
 abbrev pub max_bytes_of_lines : ℕ
-max_bytes_of_lines = LINE_SIZE * record_room
+max_bytes_of_lines = LINE_SIZE * record_capacity
 
 pub record FilesState (S : Type 0) : Type 0 where
   pub render : RenderState S

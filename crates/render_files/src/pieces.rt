@@ -9,7 +9,7 @@ ghost use Rattle.render_core.specs.RenderState.{frames_to_come, records_to_come,
 ghost use Rattle.render_files.specs.RenderReport.{sound_report};
 ghost use Rattle.num_fix.specs.Limits.{max_frames};
 ghost use Rattle.render_files.specs.RenderFiles.{stereo_size, max_bytes_of_frames, max_bytes_of_lines, trace_of, to_come_of, wave_from_piece, trace_from_piece, held_of, report_of, work_of, IsUnmade};
-ghost use Rattle.report_text.specs.Room.{room_size};
+ghost use Rattle.report_text.specs.Capacity.{buffer_capacity};
 
 use crate::rows::{STEREO_SIZE, put_frames};
 use crate::sound_report::put_sound_report;
@@ -20,14 +20,14 @@ use render_core::{Render, faded};
 use report_text::FixedBuffer;
 use std::alloc::Global;
 use std::marker::Model;
-use trace_form::{FRAME_ROOM, LINE_SIZE, RECORD_ROOM, Record, line};
+use trace_form::{FRAME_CAPACITY, LINE_SIZE, RECORD_CAPACITY, Record, line};
 use wav_form::put_frame;
 
 /// The bytes of the most frames that a piece of a render has.
-const WAVE_PIECE: usize = STEREO_SIZE * FRAME_ROOM;
+const WAVE_PIECE: usize = STEREO_SIZE * FRAME_CAPACITY;
 
 /// The bytes of the most lines that it has.
-const TRACE_PIECE: usize = LINE_SIZE * RECORD_ROOM;
+const TRACE_PIECE: usize = LINE_SIZE * RECORD_CAPACITY;
 
 /// A render over any chip that is turned into the bytes of a sound file, and of a trace where there is one, and then
 /// into a report.
@@ -69,7 +69,7 @@ impl<C: Chip> Model for RenderFiles<C> {
 
 /// Adds the bytes of frames, the first of which is frame `at` of so many, of which the last `fade` fade.
 fn put_faded_frames(wave: &mut FixedBuffer, frames: &[Frame], at: u32, samples: u32, fade: u32)
-    requires room { length wave.old + stereo_size * length frames.now ≤ room_size }
+    requires room { length wave.old + stereo_size * length frames.now ≤ buffer_capacity }
     requires inside { at + length frames.now ≤ samples }
     requires within { fade ≤ samples }
     ensures { wave.new ≡ wave.old ++ flat_map frame_bytes (faded_from at samples fade frames.now) }
@@ -86,7 +86,7 @@ fn put_faded_frames(wave: &mut FixedBuffer, frames: &[Frame], at: u32, samples: 
 
 /// Adds the lines of records.
 fn put_lines(trace: &mut FixedBuffer, records: &[Record])
-    requires { length trace.old + LINE_SIZE * length records.now ≤ room_size }
+    requires { length trace.old + LINE_SIZE * length records.now ≤ buffer_capacity }
     ensures { trace.new ≡ trace.old ++ lines_of records.now }
 {
     for record in records {
@@ -119,7 +119,7 @@ impl RenderBuffers {
 
 impl<C: Chip> RenderFiles<C> {
     /// The files of a render of so many samples that has made nothing yet; the last `fade` samples fade out. Without a
-    /// trace its records are dropped. All room is made here, and no later call takes memory.
+    /// trace its records are dropped. All memory is allocated here, and no later call takes memory.
     pub fn open(
         alloc: Global,
         render: Render<C>,
@@ -151,8 +151,8 @@ impl<C: Chip> RenderFiles<C> {
 
     /// Adds the next piece of the render, and answers whether it is the last one.
     fn add_piece(&mut self) -> bool
-        requires wave_room { length self.old.wave + max_bytes_of_frames ≤ room_size }
-        requires trace_room { length self.old.trace + max_bytes_of_lines ≤ room_size }
+        requires wave_capacity { length self.old.wave + max_bytes_of_frames ≤ buffer_capacity }
+        requires trace_capacity { length self.old.trace + max_bytes_of_lines ≤ buffer_capacity }
         ensures wave_to_come { wave_from_piece C.meaning self.old ≡ wave_from_piece C.meaning self.new }
         ensures trace_to_come { trace_from_piece C.meaning self.old ≡ trace_from_piece C.meaning self.new }
         ensures wave_done { result ≡ true → (to_come_of C.meaning self.new).wave ≡ [] }

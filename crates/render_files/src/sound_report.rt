@@ -1,14 +1,14 @@
 // What a render reports: its samples, and how often the chip ran for them, and why.
 ghost use Rattle.std.specs.Prelude.{◌≡◌, ◌+◌, ◌≤◌, ◌++◌, length, decimal};
 ghost use Rattle.render_files.specs.RenderReport.{batch_line, longest_batch_line, longest_sound_report, sound_report};
-ghost use Rattle.report_text.specs.Room.{room_size};
+ghost use Rattle.report_text.specs.Capacity.{buffer_capacity};
 
 use lock_step::Counts;
 use report_text::{FixedBuffer, put_count};
 
 /// Adds the line of these counts.
 pub fn put_batches(report: &mut FixedBuffer, counts: Counts)
-    requires { length report.old + longest_batch_line ≤ room_size }
+    requires { length report.old + longest_batch_line ≤ buffer_capacity }
     ensures { report.new ≡ report.old ++ batch_line counts }
 {
     put_count(report, b"batches ", counts.batches);
@@ -23,7 +23,7 @@ pub fn put_batches(report: &mut FixedBuffer, counts: Counts)
 
 /// Adds the report on so many samples, made in batches of these counts.
 pub fn put_sound_report(report: &mut FixedBuffer, samples: u32, counts: Counts)
-    requires { length report.old + longest_sound_report ≤ room_size }
+    requires { length report.old + longest_sound_report ≤ buffer_capacity }
     ensures { report.new ≡ report.old ++ sound_report samples counts }
 {
     put_count(report, b"samples ", u64::from(samples));

@@ -1,4 +1,4 @@
 -- how texts are printed
 pub mod Texts
--- bytes with a fixed room
-pub mod Room
+-- bytes with a fixed capacity
+pub mod Capacity

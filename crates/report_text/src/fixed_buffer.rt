@@ -1,12 +1,12 @@
-// Bytes with a fixed room.
+// Bytes with a fixed capacity.
 ghost use Rattle.std.specs.Prelude.{◌≡◌, ◌↔◌, ◌+◌, ◌≤◌, ◌++◌, [], true, length, decimal, IfOk};
-ghost use Rattle.report_text.specs.Room.{room_size, max_count_digits};
+ghost use Rattle.report_text.specs.Capacity.{buffer_capacity, max_count_digits};
 
 use crate::OutOfMemory;
 use std::alloc::Global;
 use std::marker::Model;
 
-/// How many bytes there is room for.
+/// How many bytes there can be.
 const ROOM_SIZE: usize = 131072;
 
 /// Up to 131,072 bytes, so that adding some takes no memory. Room that isn't used is never written.
@@ -17,28 +17,28 @@ pub struct FixedBuffer {
 
 impl Model for FixedBuffer {
     ghost use Rattle.std.specs.Prelude.{◌≤◌, List, ℕ, vec_len, vec_capacity};
-    ghost use Rattle.report_text.specs.Room.{room_size};
+    ghost use Rattle.report_text.specs.Capacity.{buffer_capacity};
 
     ghost Value = { List ℕ };
 
-    ghost view = { λ room. room.bytes.items };
+    ghost view = { λ buffer. buffer.bytes.items };
 
-    ghost invariant = { λ room. (room_size ≤ vec_capacity room.bytes) × (vec_len room.bytes ≤ room_size) };
+    ghost invariant = { λ buffer. (buffer_capacity ≤ vec_capacity buffer.bytes) × (vec_len buffer.bytes ≤ buffer_capacity) };
 }
 
 impl FixedBuffer {
-    /// No bytes, and room for 131,072.
+    /// No bytes, and the capacity for 131,072.
     pub fn new(alloc: Global) -> Result<FixedBuffer, OutOfMemory>
-        ensures { IfOk result (λ room. room ≡ []) }
+        ensures { IfOk result (λ buffer. buffer ≡ []) }
     {
         let bytes = Vec::with_capacity(alloc, ROOM_SIZE)?;
         Ok(FixedBuffer { bytes })
     }
 
-    /// Whether there is room for so many more.
+    /// Whether there is buffer for so many more.
     pub fn has_room(&self, more: usize) -> bool
-        requires { more ≤ room_size }
-        ensures { (result ≡ true) ↔ (length self.now + more ≤ room_size) }
+        requires { more ≤ buffer_capacity }
+        ensures { (result ≡ true) ↔ (length self.now + more ≤ buffer_capacity) }
     {
         self.bytes.len() + more <= ROOM_SIZE
     }
@@ -52,7 +52,7 @@ impl FixedBuffer {
 
     /// Adds bytes at the end.
     pub fn append(&mut self, piece: &[u8])
-        requires { length self.old + length piece.now ≤ room_size }
+        requires { length self.old + length piece.now ≤ buffer_capacity }
         ensures { self.new ≡ self.old ++ piece.now }
     {
         let _ = self.bytes.extend_from_slice(piece);
@@ -68,7 +68,7 @@ impl FixedBuffer {
 
 /// Adds a word and a count.
 pub fn put_count(report: &mut FixedBuffer, word: &[u8], count: u64)
-    requires { length report.old + length word.now + max_count_digits ≤ room_size }
+    requires { length report.old + length word.now + max_count_digits ≤ buffer_capacity }
     ensures text { report.new ≡ report.old ++ word.now ++ decimal count }
     ensures len { length report.new ≤ length report.old + length word.now + max_count_digits }
 {

@@ -1,4 +1,4 @@
-//! The text of reports: numbers and texts that are printed to bytes, which grow or have a fixed room.
+//! The text of reports: numbers and texts that are printed to bytes, which grow or have a fixed capacity.
 #![tactic(auto)]
 
 mod fixed_buffer;

@@ -1,6 +1,6 @@
-// Reports in room that was taken before.
+// Reports in memory that was allocated before.
 ghost use Rattle.std.specs.Prelude.{◌≡◌, ◌+◌, ◌≤◌, ◌++◌, length, vec_len, vec_capacity, decimal};
-ghost use Rattle.report_text.specs.Room.{max_count_digits};
+ghost use Rattle.report_text.specs.Capacity.{max_count_digits};
 
 /// Adds bytes, for which there is room, so that no memory is taken.
 pub fn put_reserved(report: &mut Vec<u8>, bytes: &[u8])

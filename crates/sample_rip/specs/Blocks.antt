@@ -1,4 +1,4 @@
--- The blocks of a sample in memory: nine bytes each, one after another, round the end of memory (Anomie's S-DSP document, BRR samples).
+-- The blocks of a sample in memory: nine bytes each, one after another, wrapping at the end of memory (Anomie's S-DSP document, BRR samples).
 use Rattle.std.specs.Prelude.{ℕ, zero, suc, ◌+◌, ◌*◌, ◌%◌, List, [], ◌++◌, map, Bool, Option, Some, None, if◌then◌else◌}
 use Rattle.std.specs.List.{range_with_len}
 use Rattle.aram_core.specs.Memory.{byte_at}

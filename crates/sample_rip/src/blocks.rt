@@ -29,7 +29,7 @@ pub fn loops_at(memory: &Aram, start: u16, block: u32) -> bool
     has_loop(memory.get(block_address(start, block)))
 }
 
-/// The bytes of a block, which may stand round the end of memory.
+/// The bytes of a block, which may wrap at the end of memory.
 pub fn block_bytes(memory: &Aram, start: u16, block: u32) -> [u8; 9]
     ensures { result ≡ block_bytes memory.now start block }
 {

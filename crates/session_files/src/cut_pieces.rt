@@ -7,7 +7,7 @@ ghost use Rattle.cut_server.specs.Server.{pages_at, frames_to};
 ghost use Rattle.cut_server.specs.ServerState.{book_of, slots_of};
 ghost use Rattle.cut_form.specs.GrowingFrames.{AreOfRun};
 ghost use Rattle.session_files.specs.CutFiles.{cuts_report, to_come_of, held_of, report_of, work_of};
-ghost use Rattle.report_text.specs.Room.{room_size};
+ghost use Rattle.report_text.specs.Capacity.{buffer_capacity};
 
 use crate::OutOfMemory;
 use crate::cut_report::put_cut_report;
@@ -48,7 +48,7 @@ impl<C: Chip> Model for CutFiles<C> {
 }
 
 impl<C: Chip> CutFiles<C> {
-    /// The files of cuts that a server has yet to play. All room is made here, and no later call takes memory.
+    /// The files of cuts that a server has yet to play. All memory is allocated here, and no later call takes memory.
     pub fn open(
         alloc: Global,
         server: CutServer<C>,
@@ -109,7 +109,7 @@ impl<C: Chip> CutFiles<C> {
     /// Plays the next frames of the cut that was begun, 64 at most, and adds their bytes.
     fn play(&mut self)
         requires some { 1 ≤ self.old.left }
-        requires room { length self.old.wave + max_played_bytes ≤ room_size }
+        requires room { length self.old.wave + max_played_bytes ≤ buffer_capacity }
         ensures wave_to_come { self.old.wave ++ (to_come_of C.meaning C.saving self.old).wave ≡ self.new.wave ++ (to_come_of C.meaning C.saving self.new).wave }
         ensures report { report_of C.meaning C.saving self.new ≡ report_of C.meaning C.saving self.old }
         ensures less_work { work_of self.new < work_of self.old }

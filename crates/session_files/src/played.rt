@@ -3,7 +3,7 @@ ghost use Rattle.std.specs.Prelude.{◌≡◌, ◌+◌, ◌*◌, ◌≤◌, ◌+
 ghost use Rattle.std.specs.List.{flat_map};
 ghost use Rattle.wav_form.specs.Wave.{frame_bytes};
 ghost use Rattle.render_files.specs.RenderFiles.{stereo_size};
-ghost use Rattle.report_text.specs.Room.{room_size};
+ghost use Rattle.report_text.specs.Capacity.{buffer_capacity};
 
 use crate::OutOfMemory;
 use render_files::put_frames;
@@ -32,7 +32,7 @@ impl PieceBuffers {
 
 /// Adds the bytes of the frames that were played.
 pub(crate) fn put_played(wave: &mut FixedBuffer, frames: &Frames)
-    requires { length wave.old + stereo_size * length frames.now ≤ room_size }
+    requires { length wave.old + stereo_size * length frames.now ≤ buffer_capacity }
     ensures { wave.new ≡ wave.old ++ flat_map frame_bytes frames.now }
 {
     put_frames(wave, frames.as_slice());

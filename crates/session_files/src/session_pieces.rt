@@ -11,7 +11,7 @@ ghost use Rattle.cut_form.specs.GrowingFrames.{AreOfRun};
 ghost use Rattle.session_files.specs.SessionRun.{left_to_play};
 ghost use Rattle.session_files.specs.Replies.{report_on};
 ghost use Rattle.session_files.specs.SessionFiles.{replies_of_server, to_come_of, held_of, report_of, work_of, is_finished, SessionGoesOn};
-ghost use Rattle.report_text.specs.Room.{room_size};
+ghost use Rattle.report_text.specs.Capacity.{buffer_capacity};
 
 use crate::OutOfMemory;
 use crate::played::{PieceBuffers, put_played};
@@ -58,7 +58,7 @@ impl<C: Chip> Model for SessionFiles<C> {
 }
 
 impl<C: Chip> SessionFiles<C> {
-    /// The files of a session on a server that stands at its opening. All room is made here, that for the replies too, and
+    /// The files of a session on a server that stands at its opening. All memory is allocated here, that for the replies too, and
     /// no later call takes memory.
     pub fn open(
         alloc: Global,
@@ -105,7 +105,7 @@ impl<C: Chip> SessionFiles<C> {
     /// Plays the next frames of the last line.
     fn play_some(&mut self)
         requires some { 0 < self.old.run.left }
-        requires room { length self.old.wave + max_played_bytes ≤ room_size }
+        requires room { length self.old.wave + max_played_bytes ≤ buffer_capacity }
         ensures { SessionGoesOn C.meaning C.saving self.old self.new }
     {
         self.run.play_some(&mut self.frames);
@@ -128,7 +128,7 @@ impl<C: Chip> SessionFiles<C> {
     /// Plays the next frames of the last line, or answers the next line.
     fn step(&mut self)
         requires more { is_finished self.old ≡ false }
-        requires room { length self.old.wave + max_played_bytes ≤ room_size }
+        requires room { length self.old.wave + max_played_bytes ≤ buffer_capacity }
         ensures { SessionGoesOn C.meaning C.saving self.old self.new }
     {
         if self.run.left() > 0 {

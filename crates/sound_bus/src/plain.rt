@@ -1,7 +1,7 @@
 // A bus that makes each sample in the moment in which it falls due.
 ghost use Rattle.std.specs.Prelude.{◌≡◌, ◌+◌, ◌*◌, ◌/◌, ◌<◌, ◌≤◌, true, length, IfOk};
 ghost use Rattle.chip_form.specs.Samples.{AddsSample};
-ghost use Rattle.trace_form.specs.Rooms.{frame_room, record_room};
+ghost use Rattle.trace_form.specs.Capacities.{frame_capacity, record_capacity};
 ghost use Rattle.chip_form.specs.Limits.{max_samples_of_chip};
 ghost use Rattle.lock_step.specs.Machine.{opened_machine};
 ghost use Rattle.lock_step.specs.LockStep.{bus_answer, after_bus_read, after_bus_write, after_bus_pass, lock_step};
@@ -70,8 +70,8 @@ fn make_sample<C: Chip>(
 )
     requires is_valid { C.meaning.is_valid (C.state chip.old) ≡ true }
     requires number { C.sample chip.old < max_samples_of_chip }
-    requires frame_room { length frames.old < frame_room }
-    requires record_room { length records.old + 8 ≤ record_room }
+    requires frame_capacity { length frames.old < frame_capacity }
+    requires record_capacity { length records.old + 8 ≤ record_capacity }
     ensures made { let made = C.meaning.one_sample (C.sample chip.old) (C.state chip.old) memory.old in
         AddsSample mask made (C.state chip.new) memory.new frames.old frames.new records.old records.new }
     ensures sample { C.sample chip.new ≡ C.sample chip.old + 1 }
@@ -83,7 +83,7 @@ fn make_sample<C: Chip>(
 
 impl<C: Chip> PlainBus<C> {
     /// The bus at clock 0 over a chip that stands at sample 0 and has made no batch. It emits the records of the voices in the mask;
-    /// bit v of the mask is voice v. All room is made here. The chip has its registers already, so the opening's aren't used.
+    /// bit v of the mask is voice v. All memory is allocated here. The chip has its registers already, so the opening's aren't used.
     pub fn open(alloc: Global, opening: OpenState, chip: C, mask: u8) -> Result<Self, OutOfMemory>
         requires sample { C.sample chip ≡ 0 }
         requires batches { C.batches chip ≡ 0 }

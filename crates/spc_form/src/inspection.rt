@@ -65,7 +65,7 @@ fn text_places(bytes: &[u8]) -> [TextPlace; 8]
 /// given. Where the tags don't give the length it is three minutes; where they do, a second at least comes before the fade.
 pub fn inspect(bytes: &[u8]) -> Result<SpcInfo, SpcRefusal>
     ensures info { result ≡ info_in bytes.now }
-    ensures untold { IfOk result (λ info. info.is_length_known ≡ false → info.length ≡ default_length) }
+    ensures unknown { IfOk result (λ info. info.is_length_known ≡ false → info.length ≡ default_length) }
     ensures second { IfOk result (λ info. info.is_length_known ≡ true → info.length.fade + SAMPLE_RATE ≤ info.length.frames) }
     ensures texts { IfOk (spc_file bytes.now) (λ file. StandThere bytes.now file) }
 {

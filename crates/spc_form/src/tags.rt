@@ -14,7 +14,7 @@ use text_form::{decimal_value, place_of};
 pub const SAMPLES_PER_MILLISECOND: u32 = 32;
 
 /// The frames of a file whose tags give no length: three minutes.
-const UNTOLD_FRAMES: u32 = 180 * SAMPLE_RATE;
+const DEFAULT_FRAMES: u32 = 180 * SAMPLE_RATE;
 
 /// The tags of a file (SPC file format text v0.30).
 #[derive(Clone, Copy, Debug, PartialEq, Eq)]
@@ -136,7 +136,7 @@ fn length_of_numbers(seconds: Option<u32>, fade: Option<u32>) -> Length
             }
         }
         _ => Length {
-            frames: UNTOLD_FRAMES,
+            frames: DEFAULT_FRAMES,
             fade: 0,
         },
     }
@@ -193,7 +193,7 @@ pub(crate) fn length_in(bytes: &[u8]) -> Length
 pub(crate) fn is_length_known_in(bytes: &[u8]) -> bool
     requires { HEAD_SIZE ≤ length bytes.now }
     ensures known { result ≡ is_length_known bytes.now }
-    ensures untold { result ≡ false → length_of bytes.now ≡ default_length }
+    ensures unknown { result ≡ false → length_of bytes.now ≡ default_length }
     ensures second { result ≡ true → (length_of bytes.now).fade + SAMPLE_RATE ≤ (length_of bytes.now).frames }
 {
     match seconds_known_in(bytes) {

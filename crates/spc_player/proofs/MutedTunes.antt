@@ -44,7 +44,7 @@ at_opening inputs options server player over start book slots =
       tune = tune;
       position = ap (λ b. b.position) same;
       marks = ap (λ b. b.live) same ∙ ap (λ (pages : ℕ → List (List ℕ)). with_checkpoint [] 0 (pages 0)) (sym tune.memory);
-      room = ap slots_of over.server_is ∙ slots;
+      capacity = ap slots_of over.server_is ∙ slots;
       spacing = over.spacing_is;
       made = ap (λ b. b.made) same;
       end = over.end_is;
@@ -72,7 +72,7 @@ is_muted muted saved old new is anew =
       position = anew.position;
       marks = anew.marks;
       made = anew.made;
-      room = anew.room;
+      capacity = anew.capacity;
       spacing = anew.spacing;
       end = anew.end;
     }

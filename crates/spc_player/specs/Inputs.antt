@@ -16,7 +16,7 @@ use Rattle.spc_player.specs.declared.refusal.PlayerRefusal.{PlayerRefusal}
 use Rattle.spc_player.specs.declared.options.PlayerOptions.{PlayerOptions}
 use Rattle.player.specs.OwnMarks.{spacing_of}
 use Rattle.spc_player.specs.Refusals.{of_spc, of_table}
-use Rattle.player.specs.Player.{position_of, marks_of, room_of, made_of}
+use Rattle.player.specs.Player.{position_of, marks_of, pool_capacity, made_of}
 use Rattle.spc_player.specs.Player.{SpcPlayer, opening_of, frames_of, memory_of, chip_of}
 
 pub record Inputs : Type 0 where
@@ -53,7 +53,7 @@ pub record IsAtOpening (inputs : Inputs) (options : PlayerOptions) (player : Spc
   pub tune : IsOfTune inputs options.muted player
   pub position : position_of player ≡ 0
   pub marks : marks_of player ≡ with_checkpoint [] 0 (memory_of player 0)
-  pub room : room_of player ≡ options.pages
+  pub capacity : pool_capacity player ≡ options.pages
   pub spacing : player.spacing ≡ spacing_of options.mark_seconds
   pub made : made_of player ≡ 0
   pub end : player.end ≡ length_of inputs.file
@@ -75,6 +75,6 @@ pub record IsMuted (muted : ℕ) (old new : SpcPlayer) : Type 0 where
   pub position : position_of new ≡ position_of old
   pub marks : marks_of new ≡ with_checkpoint [] 0 (memory_of new 0)
   pub made : made_of new ≡ count_after (made_of old) (position_of old)
-  pub room : room_of new ≡ room_of old
+  pub capacity : pool_capacity new ≡ pool_capacity old
   pub spacing : new.spacing ≡ old.spacing
   pub end : new.end ≡ old.end

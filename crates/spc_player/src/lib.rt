@@ -12,7 +12,7 @@ mod tests;
 mod threads;
 mod voices;
 
-pub use laws::the_opening_and_the_file_tell_the_tune;
+pub use laws::the_opening_and_the_file_determine_the_tune;
 pub use muting::mute;
 pub use opening::{open_bytes, open_player};
 pub use options::PlayerOptions;

@@ -9,7 +9,7 @@ use std::test::Fail;
 use test_support::{DSP, FILE_LENGTH, FIVE, Pieces, file_of, straight_table};
 
 /// Tags that show a title, a second, and a fade of a millisecond, 32 frames.
-const TOLD: &[(usize, &[u8])] = &[
+const TAGGED: &[(usize, &[u8])] = &[
     (0x23, b"\x1a"),
     (0x2e, b"Five steps"),
     (0xa9, b"001"),
@@ -93,7 +93,7 @@ fn look_at_the_title(rt: &impl Abort, player: &Player<Dsp>) {
 #[test]
 fn a_made_file_is_played(rt: HostRuntime) -> Result<(), Fail> {
     let alloc = rt.alloc();
-    let image = file_of(alloc, FILE_LENGTH, FIVE, TOLD)?;
+    let image = file_of(alloc, FILE_LENGTH, FIVE, TAGGED)?;
     let table = straight_table(alloc)?;
     let mut player = open_bytes(alloc, &image, &table, OPTIONS)?;
     look_at_the_title(&rt, &player);
@@ -180,7 +180,7 @@ fn voices_are_muted_while_it_plays(rt: HostRuntime) -> Result<(), Fail> {
 #[test]
 fn a_seek_goes_on_in_parts(rt: HostRuntime) -> Result<(), Fail> {
     let alloc = rt.alloc();
-    let image = file_of(alloc, FILE_LENGTH, FIVE, TOLD)?;
+    let image = file_of(alloc, FILE_LENGTH, FIVE, TAGGED)?;
     let table = straight_table(alloc)?;
     let mut player = open_bytes(alloc, &image, &table, OPTIONS)?;
     let there = [

@@ -178,7 +178,7 @@ const AWKWARD: &[Hostile] = &[
         trace: "",
     },
     Hostile {
-        shows: "a program that wraps round the end of memory",
+        shows: "a program that wraps at the end of memory",
         words: &["render", "SPC", "TABLE", "OUT", "--samples", "2"],
         length: FILE_LENGTH,
         sound: &[],

@@ -70,9 +70,9 @@ fn a_block_that_loops_outside_or_to_itself(rt: HostRuntime) -> Result<(), Fail> 
     Ok(())
 }
 
-/// Two blocks round the end of memory, the second of which ends with a loop to the second; and one without its loop bit.
+/// Two blocks that wrap at the end of memory, the second of which ends with a loop to the second; and one without its loop bit.
 #[test]
-fn blocks_round_the_end_of_memory(rt: HostRuntime) -> Result<(), Fail> {
+fn blocks_wrap_at_the_end_of_memory(rt: HostRuntime) -> Result<(), Fail> {
     let alloc = rt.alloc();
     for (header, end) in [(0x03, RipEnd::Loop(16)), (0x01, RipEnd::NoLoop)] {
         let memory = memory(

@@ -33,13 +33,13 @@ fn bytes_that_are_not_printable_are_shown_as_digits(rt: HostRuntime) -> Result<(
 }
 
 #[test]
-fn a_room_takes_bytes_until_it_is_full(rt: HostRuntime) -> Result<(), Fail> {
-    let mut room = FixedBuffer::new(rt.alloc())?;
-    room.append(b"sam");
-    put_count(&mut room, b"ples ", 18446744073709551615);
-    assert!(rt; room.as_slice() == b"samples 18446744073709551615".as_slice());
-    assert!(rt; room.has_room(131044) && !room.has_room(131045));
-    room.clear();
-    assert!(rt; room.as_slice().is_empty());
+fn a_buffer_takes_bytes_until_it_is_full(rt: HostRuntime) -> Result<(), Fail> {
+    let mut buffer = FixedBuffer::new(rt.alloc())?;
+    buffer.append(b"sam");
+    put_count(&mut buffer, b"ples ", 18446744073709551615);
+    assert!(rt; buffer.as_slice() == b"samples 18446744073709551615".as_slice());
+    assert!(rt; buffer.has_room(131044) && !buffer.has_room(131045));
+    buffer.clear();
+    assert!(rt; buffer.as_slice().is_empty());
     Ok(())
 }

@@ -18,7 +18,7 @@ fn shifts_and_filters(rt: HostRuntime) -> Result<(), Fail> {
 
 // The same bytes after other samples are another group, the first time and each further time.
 #[test]
-fn remembered_blocks(rt: HostRuntime) -> Result<(), Fail> {
+fn cached_blocks(rt: HostRuntime) -> Result<(), Fail> {
     let mut blocks = BrrCache::new(rt.alloc())?;
     for _ in 0..2 {
         for (header, digits, group, before, decoded) in [

@@ -166,9 +166,9 @@ fn each_timer_has_its_own_bit_of_the_control(rt: HostRuntime) {
     }
 }
 
-// Timer 2 has four ticks under the target 5. Its inner counter is past the target 3 then, and comes to it once it has gone round: 255 ticks later.
+// Timer 2 has four ticks under the target 5. Its inner counter is past the target 3 then, and comes to it once it has wrapped: 255 ticks later.
 #[test]
-fn a_target_below_the_inner_counter_waits_for_a_round(rt: HostRuntime) {
+fn a_target_below_the_inner_counter_waits_until_it_wraps(rt: HostRuntime) {
     let mut io = Io::from_cells([0; 16], [0; 64]);
     io.write(0xFC, 0x05);
     io.write(0xF1, 0x04);

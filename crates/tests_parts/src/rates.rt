@@ -73,7 +73,7 @@ const FIRINGS: [(u32, u32); 31] = [
     (1, 1),
 ];
 
-/// How often a rate fires in the samples in which the counter comes round, and in which of them first.
+/// How often a rate fires in the samples until the counter wraps around, and in which of them first.
 fn firings(rate: u8) -> (u32, u32)
     requires { rate < 32 }
 {

@@ -54,7 +54,7 @@ fn the_line_of_each_kind_of_record(rt: HostRuntime) {
 }
 
 #[test]
-fn the_room_of_the_frames(rt: HostRuntime) -> Result<(), Fail> {
+fn the_capacity_of_the_frames(rt: HostRuntime) -> Result<(), Fail> {
     let frame = Frame { left: 1, right: -1 };
     let mut frames = Frames::new(rt.alloc())?;
     assert!(rt; frames.room() == 128);
@@ -66,7 +66,7 @@ fn the_room_of_the_frames(rt: HostRuntime) -> Result<(), Fail> {
 }
 
 #[test]
-fn the_room_of_the_records(rt: HostRuntime) -> Result<(), Fail> {
+fn the_capacity_of_the_records(rt: HostRuntime) -> Result<(), Fail> {
     let mut records = Records::new(rt.alloc())?;
     assert!(rt; records.room() == 1344);
     records.push(port(0, 9));

@@ -62,7 +62,7 @@ fn make_all<B: CountedBus>(
     let mut answers = Vec::new(alloc);
     for call in calls {
         let byte = make(bus, *call, all)?;
-        answers.push((byte, bus.waiting()))?;
+        answers.push((byte, bus.pending_samples()))?;
     }
     Ok(answers)
 }

@@ -94,14 +94,14 @@ pub fn open_late(alloc: Global, opening: OpenState, mask: u8) -> Result<LagBus<D
 /// What both buses return by methods of their own.
 pub trait CountedBus: DrainedBus {
     /// The samples that are pending.
-    fn waiting(&self) -> u8;
+    fn pending_samples(&self) -> u8;
 
     /// How often the chip ran, and why.
     fn batches_of_each(&self) -> Counts;
 }
 
 impl<C: Chip> CountedBus for PlainBus<C> {
-    fn waiting(&self) -> u8 {
+    fn pending_samples(&self) -> u8 {
         self.pending()
     }
 
@@ -111,7 +111,7 @@ impl<C: Chip> CountedBus for PlainBus<C> {
 }
 
 impl<C: Chip> CountedBus for LagBus<C> {
-    fn waiting(&self) -> u8 {
+    fn pending_samples(&self) -> u8 {
         self.pending()
     }
 

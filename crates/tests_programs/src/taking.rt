@@ -9,7 +9,7 @@ use std::test::Fail;
 use test_support::writes_of;
 use trace_form::Record;
 
-/// What a bus emits that takes steps until 100 samples are due, with three fillings more of its room for calls each time.
+/// What a bus emits that takes steps until 100 samples are due, with three times as many calls more each time as it has room for.
 fn take_all<B: DrainedBus>(alloc: Global, bus: &mut B) -> Result<Emitted, Fail> {
     let mut cpu = START;
     let mut all = Emitted::none(alloc)?;

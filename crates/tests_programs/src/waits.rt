@@ -170,7 +170,7 @@ const TWO_POLLS: [u8; 22] = [
 
 /// The first poll comes at 13 and each 12 cycles on, 15 after a first poll that saw a 1, and 13 after such a second one.
 #[test]
-fn a_counter_leaves_0_in_the_middle_of_a_round(rt: HostRuntime) -> Result<(), Fail> {
+fn a_counter_leaves_0_in_the_middle_of_an_iteration(rt: HostRuntime) -> Result<(), Fail> {
     let mut wanted = Vec::new(rt.alloc());
     for (sample, port) in [
         (8, 1),

@@ -38,7 +38,7 @@ fn add_all<C: Chip>(render: &mut Render<C>, known: &mut Known) -> Result<(), Fai
 }
 
 /// Renders so many samples of a file over a chip, without records of voices.
-fn tell_over<C: Chip>(alloc: Global, file: &SpcFile, chip: C, samples: u32) -> Result<Known, Fail>
+fn report_over<C: Chip>(alloc: Global, file: &SpcFile, chip: C, samples: u32) -> Result<Known, Fail>
     requires few { samples ≤ max_frames }
     requires sample { C.sample chip ≡ 0 }
     requires batches { C.batches chip ≡ 0 }
@@ -56,12 +56,12 @@ fn tell_over<C: Chip>(alloc: Global, file: &SpcFile, chip: C, samples: u32) -> R
 }
 
 /// Renders so many samples of a silent program.
-fn tell(alloc: Global, program: &[u8], samples: u32) -> Result<Known, Fail>
+fn report(alloc: Global, program: &[u8], samples: u32) -> Result<Known, Fail>
     requires { samples ≤ max_frames }
 {
     let file = file(alloc, &[], program)?;
     let chip = chip_of(alloc, &file)?;
-    tell_over(alloc, &file, chip, samples)
+    report_over(alloc, &file, chip, samples)
 }
 
 /// Counts of so many batches: for writes of memory, for 64 pending samples and at the end.
@@ -77,7 +77,7 @@ fn counts_of(batches: u64, memory: u64, full: u64, end: u64) -> Counts {
     }
 }
 
-/// Timer 2 has the target 10, so that its counter leaves 0 at each 160 cycles. A round of 7 cycles polls it, first at clock 13; what
+/// Timer 2 has the target 10, so that its counter leaves 0 at each 160 cycles. An iteration of 7 cycles polls it, first at clock 13; what
 /// it reads is written to port 0 after 29 cycles, and 37 after it the next poll comes. Each write has the samples before it made.
 #[test]
 fn a_driver_waits_for_its_timer(rt: HostRuntime) -> Result<(), Fail> {
@@ -89,7 +89,7 @@ fn a_driver_waits_for_its_timer(rt: HostRuntime) -> Result<(), Fail> {
         0x8F, 10, 0xFC, 0x8F, 0x04, 0xF1, 0xE4, 0xFF, 0xF0, 0xFC, 0, 0, 0, 0, 0, 0, 0, 0, 0, 0, 0,
         0, 0xC4, 0xF4, 0x2F, 0xEC,
     ];
-    let known = tell(rt.alloc(), &program, 100)?;
+    let known = report(rt.alloc(), &program, 100)?;
     look_at(&rt, &known, 100, wanted.as_slice(), counts_of(20, 19, 0, 1));
     Ok(())
 }
@@ -104,7 +104,7 @@ fn look_at(rt: &impl Abort, known: &Known, frames: u64, records: &[Record], coun
 /// The longest render: an hour is 115,200,000 samples, in 1,800,000 batches of 64.
 #[test]
 fn a_stopped_processor_is_rendered_for_an_hour(rt: HostRuntime) -> Result<(), Fail> {
-    let known = tell(rt.alloc(), &[0xFF], 115200000)?;
+    let known = report(rt.alloc(), &[0xFF], 115200000)?;
     look_at(
         &rt,
         &known,

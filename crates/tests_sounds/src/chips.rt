@@ -151,7 +151,7 @@ fn play_once(rt: &impl Abort, stage: &mut Stage, n: u8, frames: &[Frame], known:
 }
 
 #[test]
-fn the_first_sound_is_told_in_the_results(rt: HostRuntime) -> Result<(), Fail> {
+fn the_first_sound_shows_in_the_results(rt: HostRuntime) -> Result<(), Fail> {
     let mut stage = keyed_voice(rt.alloc(), 0x01)?;
     play_once(&rt, &mut stage, 6, &[SILENT_FRAME; 6], (0, 0));
     play_once(&rt, &mut stage, 1, &[SOUND], (127, 15));
@@ -359,8 +359,8 @@ fn are_all(memory: &Aram, from: u16, to: u16, value: u8) -> bool {
     true
 }
 
-/// A chip whose echo, of 65 samples at first, goes round the end of a memory of ones.
-fn echo_round_the_end(alloc: Global) -> Result<Stage, Fail> {
+/// A chip whose echo, of 65 samples at first, wraps at the end of a memory of ones.
+fn echo_over_the_end(alloc: Global) -> Result<Stage, Fail> {
     let ones = vec![in alloc; 0x11u8; 0x10000]?;
     let mut registers = [0; 128];
     registers[0x6d] = 0xff;
@@ -377,8 +377,8 @@ fn play_to(rt: &impl Abort, stage: &mut Stage, batches: &[u8], sample: u32, zero
 }
 
 #[test]
-fn the_echo_goes_round_its_window(rt: HostRuntime) -> Result<(), Fail> {
-    let mut stage = echo_round_the_end(rt.alloc())?;
+fn the_echo_wraps_in_its_window(rt: HostRuntime) -> Result<(), Fail> {
+    let mut stage = echo_over_the_end(rt.alloc())?;
     play_to(&rt, &mut stage, &[64, 1], 65, 0x104);
     assert!(rt; are_all(&stage.memory, 0x0004, 0xfeff, 0x11));
     stage.dsp.reg_write(0x7d, 0x02);

@@ -47,9 +47,9 @@ fn feedback_mute_and_writes_off(rt: HostRuntime) -> Result<(), Fail> {
     Ok(())
 }
 
-// From FF00h on with EDL 1: 65 cells are written round the end of memory. A new EDL counts from the buffer's first cell on.
+// From FF00h on with EDL 1: 65 cells are written, which wrap at the end of memory. A new EDL counts from the buffer's first cell on.
 #[test]
-fn the_window_goes_round_and_the_length_waits(rt: HostRuntime) -> Result<(), Fail> {
+fn the_window_wraps_and_the_length_waits(rt: HostRuntime) -> Result<(), Fail> {
     let filled = vec![in rt.alloc(); 0x11u8; 65536]?;
     let mut memory = Aram::from_image(rt.alloc(), &filled)?;
     let mut echo = Echo::new();

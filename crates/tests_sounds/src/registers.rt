@@ -35,7 +35,7 @@ fn look_at_endx(rt: &impl Abort, stage: &mut Stage, writes: &[(u8, u8)], n: u8, 
 
 // The block ends in sample 10. The key on that is then written is taken in sample 12, and the block ends again in sample 22. Any byte clears ENDX.
 #[test]
-fn endx_tells_a_voice_until_its_next_key_on(rt: HostRuntime) -> Result<(), Fail> {
+fn endx_has_a_voice_until_its_next_key_on(rt: HostRuntime) -> Result<(), Fail> {
     let mut stage = keyed_voice(rt.alloc(), 0x01)?;
     look_at_endx(&rt, &mut stage, &[], 10, 0x00);
     look_at_endx(&rt, &mut stage, &[], 1, 0x01);
@@ -60,7 +60,7 @@ fn endx_loses_a_voice_that_is_keyed_as_its_block_ends(rt: HostRuntime) -> Result
 
 // The block at 0500h has no end bit: the voice goes from its last group, in sample 10, to the block that follows, and ends that one 16 samples later.
 #[test]
-fn endx_tells_only_of_blocks_with_an_end_bit(rt: HostRuntime) -> Result<(), Fail> {
+fn endx_shows_only_blocks_with_an_end_bit(rt: HostRuntime) -> Result<(), Fail> {
     let mut stage = keyed_voice(rt.alloc(), 0x01)?;
     let block = [0xc3, 0x11, 0x11, 0x11, 0x11, 0x11, 0x11, 0x11, 0x11];
     put_all(&mut stage.memory, 0x0500, &[0xc0]);

@@ -56,7 +56,7 @@ const APART: Pieces = &[
 ];
 
 /// The program reads the envelope of voice 0 in a loop of 7 cycles, first in cycle 8, and the echo writes to 0000h, in the page of F3h. Samples are due in the
-/// cycles 32, 64 and 96, the last of the loop's 13th round. The reads of the cycles 36 and 64 find one that waits: both the register and the page ask for it.
+/// cycles 32, 64 and 96, the last of the loop's 13th iteration. The reads of the cycles 36 and 64 find one that waits: both the register and the page ask for it.
 const BOTH_CAUSES: Pieces = &[
     (DSP + 0x6c, b"\x00\x00"),
     (MEMORY + 0x0400, b"\x8f\x08\xf2\xe4\xf3\x2f\xfc"),

@@ -218,7 +218,7 @@ fn has_sound_of_flood(alloc: Global, outcome: &Outcome) -> Result<bool, Fail> {
 }
 
 #[test]
-fn port_writes_past_the_room_of_the_ring_settle(rt: HostRuntime) -> Result<(), Fail> {
+fn port_writes_past_the_capacity_of_the_ring_settle(rt: HostRuntime) -> Result<(), Fail> {
     let outcome = render_tune(rt.alloc(), FIVE, FLOOD, with_trace(Some(80), None))?;
     assert!(rt; has_sound_of_flood(rt.alloc(), &outcome)?);
     assert!(rt; has_flood(rt.alloc(), &outcome, 80)?);

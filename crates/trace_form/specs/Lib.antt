@@ -1,4 +1,4 @@
 -- Line: the text of a record in a trace.
--- Rooms: how much the lists and the ring have room for.
+-- Capacities: how much the lists and the ring can hold.
 pub mod Line
-pub mod Rooms
+pub mod Capacities

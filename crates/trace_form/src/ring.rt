@@ -1,6 +1,6 @@
 // The ring of events that wait for the samples before them.
 ghost use Rattle.std.specs.Prelude.{◌≡◌, ◌≤◌, ◌++◌, ◌∷◌, [], length, IfOk, ◌↔◌, OnOk, OnErr, IsErr, slice_get, drop, IsTrue};
-ghost use Rattle.trace_form.specs.Rooms.{event_room};
+ghost use Rattle.trace_form.specs.Capacities.{event_capacity};
 
 use crate::{OutOfMemory, Record};
 use circular_buffer::HeapCircularBuffer;
@@ -8,9 +8,9 @@ use std::alloc::Global;
 use std::marker::Model;
 
 /// The events that wait in the ring at most.
-pub const EVENT_ROOM: usize = 256;
+pub const EVENT_CAPACITY: usize = 256;
 
-/// The ring holds as many records as it has room for, and takes no more.
+/// The ring is full: it holds as many records as its capacity.
 #[derive(Clone, Copy, Debug, PartialEq, Eq)]
 pub struct Full;
 
@@ -23,13 +23,13 @@ pub struct EventRing {
 impl Model for EventRing {
     ghost use Rattle.std.specs.Prelude.{◌≡◌, ◌≤◌, List, length};
     ghost use Rattle.trace_form.specs.declared.record.Record.{Record};
-    ghost use Rattle.trace_form.specs.Rooms.{event_room};
+    ghost use Rattle.trace_form.specs.Capacities.{event_capacity};
 
     ghost Value = { List Record };
 
     ghost view = { λ r. r.items.items };
 
-    ghost invariant = { λ r. (r.items.capacity ≡ event_room) × (length r.items.items ≤ event_room) };
+    ghost invariant = { λ r. (r.items.capacity ≡ event_capacity) × (length r.items.items ≤ event_capacity) };
 }
 
 impl EventRing {
@@ -37,13 +37,13 @@ impl EventRing {
     pub fn new(alloc: Global) -> Result<EventRing, OutOfMemory>
         ensures { IfOk result (λ ring. ring ≡ []) }
     {
-        let items = HeapCircularBuffer::with_capacity(alloc, EVENT_ROOM)?;
+        let items = HeapCircularBuffer::with_capacity(alloc, EVENT_CAPACITY)?;
         Ok(EventRing { items })
     }
 
     /// Adds a record at the back, unless the ring is full.
     pub fn try_push(&mut self, item: Record) -> Result<(), Full>
-        ensures full { IsErr result ↔ (length self.old ≡ event_room) }
+        ensures full { IsErr result ↔ (length self.old ≡ event_capacity) }
         ensures ok { OnOk result (self.new ≡ self.old ++ item ∷ []) }
         ensures err { OnErr result (self.new ≡ self.old) }
     {
@@ -71,7 +71,7 @@ impl EventRing {
     /// The number of records.
     pub fn len(&self) -> usize
         ensures len { result ≡ length self.now }
-        ensures within { result ≤ event_room }
+        ensures within { result ≤ event_capacity }
     {
         self.items.len()
     }

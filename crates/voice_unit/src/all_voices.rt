@@ -12,9 +12,9 @@ pub struct BatchRows {
     pub noise: [u16; BATCH_SIZE],
     /// The keys are looked at, as in every second sample.
     pub poll: [bool; BATCH_SIZE],
-    /// The key-ons that the last poll took: bit v is voice v.
+    /// The key-ons that the last poll latched: bit v is voice v.
     pub kon: [u8; BATCH_SIZE],
-    /// The voices whose key-on is taken in any sample.
+    /// The voices whose key-on is latched in any sample.
     pub any: u8,
     ghost has_bits: { HasBitsOf kon any },
 }
@@ -49,7 +49,7 @@ impl BatchRows {
         }
     }
 
-    /// The rows of a batch in which no key-on is taken.
+    /// The rows of a batch in which no key-on is latched.
     pub fn unkeyed(noise: [u16; BATCH_SIZE], poll: [bool; BATCH_SIZE]) -> BatchRows
         ensures noise { result.noise ≡ noise }
         ensures poll { result.poll ≡ poll }

@@ -4,7 +4,7 @@ use Rattle.dsp_state.specs.Results.{next_endx, bits_from}
 use Rattle.batch_rows.proofs.EchoOver.{endx_after-more}
 use Rattle.batch_rows.proofs.endx.gained_endx.Goals as goal
 
--- where none is taken, none is keyed
+-- where none is latched, none is keyed
 none_keyed : (polled : Bool) (kon : ℕ) → kon ≡ 0 → (if polled then kon else 0) ≡ 0
 none_keyed true kon none = none
 none_keyed false kon none = refl

@@ -7,7 +7,7 @@ use Rattle.batch_rows.specs.Rows.{keys_after}
 use Rattle.batch_rows.proofs.KeysApart.{all_idle, noise-keys_after, keys_and_noise_alone}
 use Rattle.batch_rows.proofs.keys.step_keys.Goals as goal
 
--- samples in which nothing fires and no key-on waits
+-- samples in which nothing fires and no key-on is pending
 module _ (c : goal.After-idle_rows) where
   none : c.keyed_samples-keyed.result ≡ 0
   none = grind (arith, nat_tests, c.if-keyed-eq0.true)

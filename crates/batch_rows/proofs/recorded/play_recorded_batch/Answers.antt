@@ -48,10 +48,10 @@ finish_sample-frame-requires c =
     rw given (c.keyed_in.ensures ∙ keyed_are k n s c.args.memory.now c.step_keys-rows.result eight c.step_keys-rows.ensures.rows c.step_keys-rows.ensures.kon_latched c.loop-j.j c.loop-j-test.true)
 
 pub push_records-requires : goal.push_records-requires
-push_records-requires c = omega (arith, c.loop-j.invariant.record_count, c.requires.record_room, c.loop-j-test.true)
+push_records-requires c = omega (arith, c.loop-j.invariant.record_count, c.requires.record_capacity, c.loop-j-test.true)
 
 pub push-requires : goal.push-requires
-push-requires c = omega (arith, c.loop-j.invariant.frame_count, c.requires.frame_room, c.loop-j-test.true)
+push-requires c = omega (arith, c.loop-j.invariant.frame_count, c.requires.frame_capacity, c.loop-j-test.true)
 
 pub loop-j-preserved : goal.loop-j-preserved
 unfolding echo_after answers settings_of

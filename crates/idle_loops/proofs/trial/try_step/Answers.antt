@@ -1,5 +1,5 @@
 use Rattle.std.proofs.Common.{◌≡◌, false, true, refl, sym, ap, ◌∙◌, rules, Some}
-use Rattle.idle_loops.specs.Looking.{Peek}
+use Rattle.idle_loops.specs.ReadOnly.{Peek}
 use Rattle.idle_loops.proofs.Trials.{peek_of_script-step}
 use Rattle.idle_loops.proofs.trial.try_step.Goals as goal
 

@@ -3,7 +3,7 @@ use Rattle.std.proofs.lemmas.Bool.Decides.{nat_tests}
 use Rattle.lock_step.proofs.StepsTaken.{no_steps, calls_anew}
 use Rattle.lag_bus.specs.Lagging.{lagging}
 use Rattle.lag_bus.specs.LagEmits.{lag_emits}
-use Rattle.lag_bus.specs.Waiting.{without_calls}
+use Rattle.lag_bus.specs.IdleCycles.{without_calls}
 use Rattle.lag_bus.proofs.StepsInHand.{one_step_on}
 use Rattle.lag_bus.proofs.cached_clock_bus.step_on.Goals as goal
 use Rattle.spc700_exec.specs.declared.bus.TheConstants.{CYCLES_PER_SAMPLE}
@@ -12,7 +12,7 @@ pub steps-init : goal.steps-init
 steps-init g c = record {
   name = refl;
   samples = refl;
-  taken = no_steps (lagging g.B.C.Chip.meaning) (lag_emits g.B.C.Chip.meaning) c.args.running.now.samples c.args.cpu.now c.args.running.now.bus;
+  taken = no_steps (lagging g.B.C.Chip.meaning) (lag_emits g.B.C.Chip.meaning) c.args.cached.now.samples c.args.cpu.now c.args.cached.now.bus;
   calls = c.requires.calls;
   awake = c.if-cpu.false;
   on = omega arith;
@@ -24,15 +24,15 @@ steps-preserved-then-not-has_room_for_step g c =
     let chip = g.B.C.Chip.meaning in
     let run = c.steps.invariant.samples in
     let due = c.if-is_at_end.ensures in
-    let more : c.steps.running.bus.machine.clock / CYCLES_PER_SAMPLE < c.steps.running.samples = grind (arith, nat_tests) in
-    let taken = one_step_on chip c.args.running.now.samples c.args.cpu.now c.args.running.now.bus c.steps.cpu c.step_once.new.cpu c.steps.running.bus c.step_once.new.running.bus c.steps.invariant.taken (rw run at more) c.step_once.ensures.does in
+    let more : c.steps.cached.bus.machine.clock / CYCLES_PER_SAMPLE < c.steps.cached.samples = grind (arith, nat_tests) in
+    let taken = one_step_on chip c.args.cached.now.samples c.args.cpu.now c.args.cached.now.bus c.steps.cpu c.step_once.new.cpu c.steps.cached.bus c.step_once.new.cached.bus c.steps.invariant.taken (rw run at more) c.step_once.ensures.does in
     let later = c.step_once.ensures.some in
     let on = c.steps.invariant.on in
     rw c.if-not-begin_calls_anew.ensures.anew
     (record {
       name = c.step_once.ensures.name ∙ c.steps.invariant.name;
       samples = c.step_once.ensures.samples ∙ c.steps.invariant.samples;
-      taken = calls_anew (lagging chip) (lag_emits chip) c.args.running.now.samples c.args.cpu.now c.args.running.now.bus c.step_once.new.cpu c.step_once.new.running.bus (without_calls c.step_once.new.running.bus) taken refl refl refl;
+      taken = calls_anew (lagging chip) (lag_emits chip) c.args.cached.now.samples c.args.cpu.now c.args.cached.now.bus c.step_once.new.cpu c.step_once.new.cached.bus (without_calls c.step_once.new.cached.bus) taken refl refl refl;
       calls = omega arith;
       awake = c.if-cpu-2.false;
       on = omega arith;
@@ -43,14 +43,14 @@ steps-preserved g c =
     let chip = g.B.C.Chip.meaning in
     let run = c.steps.invariant.samples in
     let due = c.if-is_at_end.ensures in
-    let more : c.steps.running.bus.machine.clock / CYCLES_PER_SAMPLE < c.steps.running.samples = grind (arith, nat_tests) in
+    let more : c.steps.cached.bus.machine.clock / CYCLES_PER_SAMPLE < c.steps.cached.samples = grind (arith, nat_tests) in
     let room = c.if-not-has_room_for_step.ensures in
     let later = c.step_once.ensures.some in
     let on = c.steps.invariant.on in
     record {
       name = c.step_once.ensures.name ∙ c.steps.invariant.name;
       samples = c.step_once.ensures.samples ∙ c.steps.invariant.samples;
-      taken = one_step_on chip c.args.running.now.samples c.args.cpu.now c.args.running.now.bus c.steps.cpu c.step_once.new.cpu c.steps.running.bus c.step_once.new.running.bus c.steps.invariant.taken (rw run at more) c.step_once.ensures.does;
+      taken = one_step_on chip c.args.cached.now.samples c.args.cpu.now c.args.cached.now.bus c.steps.cpu c.step_once.new.cpu c.steps.cached.bus c.step_once.new.cached.bus c.steps.invariant.taken (rw run at more) c.step_once.ensures.does;
       calls = grind (arith, nat_tests);
       awake = c.if-cpu-2.false;
       on = omega arith;
@@ -59,27 +59,27 @@ steps-preserved g c =
 pub returns-then-cpu-clause-steps : goal.returns-then-cpu-clause-steps
 returns-then-cpu-clause-steps g c =
     let chip = g.B.C.Chip.meaning in
-    one_step_on chip c.args.running.now.samples c.args.cpu.now c.args.running.now.bus c.args.cpu.now c.step_on_bus.new.cpu c.args.running.now.bus c.step_on_bus.new.self.bus
-    (no_steps (lagging chip) (lag_emits chip) c.args.running.now.samples c.args.cpu.now c.args.running.now.bus) c.requires.more c.step_on_bus.ensures.does
+    one_step_on chip c.args.cached.now.samples c.args.cpu.now c.args.cached.now.bus c.args.cpu.now c.step_on_bus.new.cpu c.args.cached.now.bus c.step_on_bus.new.self.bus
+    (no_steps (lagging chip) (lag_emits chip) c.args.cached.now.samples c.args.cpu.now c.args.cached.now.bus) c.requires.more c.step_on_bus.ensures.does
 
 pub returns-then-cpu-2-clause-steps : goal.returns-then-cpu-2-clause-steps
 returns-then-cpu-2-clause-steps g c =
     let run = c.steps.invariant.samples in
     let due = c.if-is_at_end.ensures in
-    let more : c.steps.running.bus.machine.clock / CYCLES_PER_SAMPLE < c.steps.running.samples = grind (arith, nat_tests) in
-    one_step_on g.B.C.Chip.meaning c.args.running.now.samples c.args.cpu.now c.args.running.now.bus c.steps.cpu c.step_once.new.cpu c.steps.running.bus c.step_once.new.running.bus c.steps.invariant.taken (rw run at more) c.step_once.ensures.does
+    let more : c.steps.cached.bus.machine.clock / CYCLES_PER_SAMPLE < c.steps.cached.samples = grind (arith, nat_tests) in
+    one_step_on g.B.C.Chip.meaning c.args.cached.now.samples c.args.cpu.now c.args.cached.now.bus c.steps.cpu c.step_once.new.cpu c.steps.cached.bus c.step_once.new.cached.bus c.steps.invariant.taken (rw run at more) c.step_once.ensures.does
 
 pub returns-then-left-eq0-clause-steps : goal.returns-then-left-eq0-clause-steps
 returns-then-left-eq0-clause-steps g c =
     let run = c.steps.invariant.samples in
     let due = c.if-is_at_end.ensures in
-    let more : c.steps.running.bus.machine.clock / CYCLES_PER_SAMPLE < c.steps.running.samples = grind (arith, nat_tests) in
-    one_step_on g.B.C.Chip.meaning c.args.running.now.samples c.args.cpu.now c.args.running.now.bus c.steps.cpu c.step_once.new.cpu c.steps.running.bus c.step_once.new.running.bus c.steps.invariant.taken (rw run at more) c.step_once.ensures.does
+    let more : c.steps.cached.bus.machine.clock / CYCLES_PER_SAMPLE < c.steps.cached.samples = grind (arith, nat_tests) in
+    one_step_on g.B.C.Chip.meaning c.args.cached.now.samples c.args.cpu.now c.args.cached.now.bus c.steps.cpu c.step_once.new.cpu c.steps.cached.bus c.step_once.new.cached.bus c.steps.invariant.taken (rw run at more) c.step_once.ensures.does
 
 pub returns-then-not-begin_calls_anew-clause-steps : goal.returns-then-not-begin_calls_anew-clause-steps
 returns-then-not-begin_calls_anew-clause-steps g c =
     let run = c.steps.invariant.samples in
     let due = c.if-is_at_end.ensures in
-    let more : c.steps.running.bus.machine.clock / CYCLES_PER_SAMPLE < c.steps.running.samples = grind (arith, nat_tests) in
+    let more : c.steps.cached.bus.machine.clock / CYCLES_PER_SAMPLE < c.steps.cached.samples = grind (arith, nat_tests) in
     rw c.if-not-begin_calls_anew.ensures.same
-    (one_step_on g.B.C.Chip.meaning c.args.running.now.samples c.args.cpu.now c.args.running.now.bus c.steps.cpu c.step_once.new.cpu c.steps.running.bus c.step_once.new.running.bus c.steps.invariant.taken (rw run at more) c.step_once.ensures.does)
+    (one_step_on g.B.C.Chip.meaning c.args.cached.now.samples c.args.cpu.now c.args.cached.now.bus c.steps.cpu c.step_once.new.cpu c.steps.cached.bus c.step_once.new.cached.bus c.steps.invariant.taken (rw run at more) c.step_once.ensures.does)

@@ -1,5 +1,5 @@
 use Rattle.std.proofs.Common.{◌≡◌, ◌≤◌, ◌++◌, length, drop}
-use Rattle.trace_form.specs.Rooms.{record_room}
+use Rattle.trace_form.specs.Capacities.{record_capacity}
 use Rattle.render_core.specs.Items.{records_before}
 use Rattle.render_core.proofs.making.keep_records_before.Given as goal
 
@@ -8,5 +8,5 @@ abbrev pub invariant-loop-item : goal.invariant-loop-item
 invariant-loop-item l = record {
   all : l.records ++ records_before l.samples (drop l.item-index l.item-items) ≡ records_before l.samples l.item-items;
   room : length l.records ≤ l.item-index;
-  few : length l.item-items ≤ record_room;
+  few : length l.item-items ≤ record_capacity;
 }

@@ -1,7 +1,7 @@
 use Rattle.std.proofs.Common.{◌≡◌, ◌∙◌, sym, ap, false}
 use Rattle.cut_form.specs.Checkpoints.{stands_at}
 use Rattle.cut_server.specs.Table.{live_checkpoints}
-use Rattle.cut_server.proofs.Rooms.{none_left}
+use Rattle.cut_server.proofs.RoomForOne.{none_left}
 use Rattle.cut_server.proofs.server.CutServer.mark.Goals as goal
 
 none_here : (g : _) (c : goal.After-checkpoint-arg-1 g) → stands_at (live_checkpoints c.args.self.now.table) c.args.self.now.standing.samples ≡ false

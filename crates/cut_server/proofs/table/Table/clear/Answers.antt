@@ -1,6 +1,6 @@
 use Rattle.std.proofs.Common.{arith, ap, length}
 use Rattle.cut_server.specs.Table.{live_checkpoints}
-use Rattle.cut_server.proofs.Rooms.{length-without_entry}
+use Rattle.cut_server.proofs.RoomForOne.{length-without_entry}
 use Rattle.cut_server.proofs.table.Table.clear.Goals as goal
 
 pub checkpoints-smaller : goal.checkpoints-smaller

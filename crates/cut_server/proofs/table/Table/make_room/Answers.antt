@@ -1,6 +1,6 @@
 use Rattle.std.proofs.Common.{arith, ap, sym, ◌∙◌, length}
 use Rattle.cut_server.specs.Table.{live_checkpoints}
-use Rattle.cut_server.proofs.Rooms.{length-without_entry, makes_more}
+use Rattle.cut_server.proofs.RoomForOne.{length-without_entry, makes_more}
 use Rattle.cut_server.proofs.table.Table.make_room.Goals as goal
 
 pub checkpoints-smaller : goal.checkpoints-smaller

@@ -1,7 +1,7 @@
 use Rattle.std.proofs.Common.{length}
 use Rattle.cut_form.specs.Checkpoints.{pages_of}
 use Rattle.cut_server.specs.Table.{live_checkpoints}
-use Rattle.cut_server.proofs.Rooms.{MakesRoom}
+use Rattle.cut_server.proofs.RoomForOne.{MakesRoom}
 use Rattle.cut_server.proofs.table.Table.make_room.Given as goal
 
 abbrev pub invariant-checkpoints : goal.invariant-checkpoints

@@ -39,9 +39,9 @@ samples-preserved c = record {
   records = rw (samples_after, filter-append, c.make_some-made.ensures.made.records_made, c.samples.invariant.state, c.samples.invariant.memory, c.samples.invariant.sample, c.samples.invariant.records, append_assoc) refl;
 }
 
-pub make_some-made-requires-clause-frame_room : goal.make_some-made-requires-clause-frame_room
-make_some-made-requires-clause-frame_room c = frames_fit _ _ c.args.n c.samples.made _ _ _ c.samples.invariant.frames c.requires.frame_room c.samples-test.true
+pub make_some-made-requires-clause-frame_capacity : goal.make_some-made-requires-clause-frame_capacity
+make_some-made-requires-clause-frame_capacity c = frames_fit _ _ c.args.n c.samples.made _ _ _ c.samples.invariant.frames c.requires.frame_capacity c.samples-test.true
 
-pub make_some-made-requires-clause-record_room : goal.make_some-made-requires-clause-record_room
-make_some-made-requires-clause-record_room c =
-    records_fit _ _ c.args.mask c.args.n c.samples.made _ _ _ (rw c.read_settings-settings.ensures.chip c.self.invariant.valid) c.samples.invariant.records c.requires.record_room c.samples-test.true
+pub make_some-made-requires-clause-record_capacity : goal.make_some-made-requires-clause-record_capacity
+make_some-made-requires-clause-record_capacity c =
+    records_fit _ _ c.args.mask c.args.n c.samples.made _ _ _ (rw c.read_settings-settings.ensures.chip c.self.invariant.valid) c.samples.invariant.records c.requires.record_capacity c.samples-test.true

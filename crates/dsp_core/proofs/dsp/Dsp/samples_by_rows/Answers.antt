@@ -5,10 +5,10 @@ use Rattle.dsp_core.proofs.dsp.Dsp.samples_by_rows.Goals as goal
 pub returns-then-n-lt-MIN_ROWS-clause-same : goal.returns-then-n-lt-MIN_ROWS-clause-same
 returns-then-n-lt-MIN_ROWS-clause-same c = λ j below. absurd (omega arith)
 
-pub returns-then-far-clause-same : goal.returns-then-far-clause-same
-returns-then-far-clause-same c =
+pub returns-then-surely-clause-same : goal.returns-then-surely-clause-same
+returns-then-surely-clause-same c =
     rw (← c.self.view_is)
-    (reach_keeps_apart c.args.n c.self.inside.number c.self.inside.state c.args.memory.now c.requires c.self.invariant.valid (c.is_echo_apart_from_afar-far.ensures c.if-far.true))
+    (reach_keeps_apart c.args.n c.self.inside.number c.self.inside.state c.args.memory.now c.requires c.self.invariant.valid (c.is_echo_surely_apart-surely.ensures c.if-surely.true))
 
 pub returns-then-apart-lt-MIN_ROWS-clause-same : goal.returns-then-apart-lt-MIN_ROWS-clause-same
 returns-then-apart-lt-MIN_ROWS-clause-same c = λ j below. absurd (omega arith)

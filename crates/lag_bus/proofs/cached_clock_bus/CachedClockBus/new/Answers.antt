@@ -1,5 +1,5 @@
 use Rattle.std.proofs.Common.{◌≡◌, ◌-◌, ◌∙◌, arith}
-use Rattle.lag_bus.specs.Running.{caught_up}
+use Rattle.lag_bus.specs.CachedClock.{caught_up}
 use Rattle.lag_bus.proofs.PassesInHand.{caught_up-none}
 use Rattle.lag_bus.proofs.cached_clock_bus.CachedClockBus.new.Goals as goal
 

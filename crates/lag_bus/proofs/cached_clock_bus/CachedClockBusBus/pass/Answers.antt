@@ -1,5 +1,5 @@
 use Rattle.std.proofs.Common.{◌≡◌, ◌+◌, ◌-◌, ◌<◌, sym, ◌∙◌, arith}
-use Rattle.lag_bus.specs.Running.{fallen_at, caught_up}
+use Rattle.lag_bus.specs.CachedClock.{fallen_at, caught_up}
 use Rattle.lag_bus.proofs.PassesInHand.{pass-caught_up}
 use Rattle.lag_bus.proofs.cached_clock_bus.CachedClockBusBus.pass.Goals as goal
 

@@ -1,6 +1,6 @@
 use Rattle.lag_bus.specs.Lagging.{lagging}
 use Rattle.std.proofs.Common.{◌-◌}
-use Rattle.lag_bus.specs.Running.{caught_up}
+use Rattle.lag_bus.specs.CachedClock.{caught_up}
 use Rattle.lag_bus.proofs.PassesInHand.{caught_up-book}
 use Rattle.lag_bus.proofs.cached_clock_bus.CachedClockBusBus.read.Goals as goal
 

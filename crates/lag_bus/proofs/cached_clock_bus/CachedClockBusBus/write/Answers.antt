@@ -1,6 +1,6 @@
 use Rattle.std.proofs.Common.{◌-◌, inl, inr, arith}
 use Rattle.lag_bus.specs.Lagging.{lagging}
-use Rattle.lag_bus.specs.Running.{caught_up}
+use Rattle.lag_bus.specs.CachedClock.{caught_up}
 use Rattle.lag_bus.proofs.PassesInHand.{caught_up-book}
 use Rattle.lag_bus.proofs.cached_clock_bus.CachedClockBusBus.write.Goals as goal
 

@@ -1,50 +1,50 @@
 use Rattle.std.proofs.Common.{◌≡◌, ◌⊎◌, inl, inr, ◌+◌, ◌-◌, ◌*◌, ◌/◌, ◌≤◌, arith}
-use Rattle.lag_bus.specs.Late.{Late}
-use Rattle.lag_bus.proofs.RoomOfFallen.{frames_of_fallen, records_of_fallen}
+use Rattle.lag_bus.specs.Deferred.{Deferred}
+use Rattle.lag_bus.proofs.CapacityOfFallen.{frames_of_fallen, records_of_fallen}
 use Rattle.lag_bus.proofs.lag.LagBusDeferredBus.catch_up.Goals as goal
 use Rattle.spc700_exec.specs.declared.bus.TheConstants.{CYCLES_PER_SAMPLE}
 
 pub queue_all-requires-clause-frames : goal.queue_all-requires-clause-frames
 queue_all-requires-clause-frames g c =
-    let late : Late g.row.C-State.Denot = c.self.inside.late in
+    let deferred : Deferred g.row.C-State.Denot = c.self.inside.deferred in
     let clock = c.clock.ensures.clock in
     let behind = rw (← c.self.view_is) at c.requires in
-    let counted : (c.self.inside.time.calls + (c.args.clock / CYCLES_PER_SAMPLE - c.self.inside.time.clock / CYCLES_PER_SAMPLE) ≤ c.args.calls) ⊎ (late.frames_used ≡ late.pending) =
+    let counted : (c.self.inside.time.calls + (c.args.clock / CYCLES_PER_SAMPLE - c.self.inside.time.clock / CYCLES_PER_SAMPLE) ≤ c.args.calls) ⊎ (deferred.frames_used ≡ deferred.pending) =
     elim behind.counted [
       | inl each ↦ inl each
       | inr none ↦ inr (c.holds_only_what_waits.ensures.frames none)
     ] in
-    let fits = frames_of_fallen late.frames_used late.pending (c.args.clock / CYCLES_PER_SAMPLE - c.self.inside.time.clock / CYCLES_PER_SAMPLE) c.self.inside.time.calls c.args.calls c.self.invariant.frames behind.free counted in
+    let fits = frames_of_fallen deferred.frames_used deferred.pending (c.args.clock / CYCLES_PER_SAMPLE - c.self.inside.time.clock / CYCLES_PER_SAMPLE) c.self.inside.time.calls c.args.calls c.self.invariant.frames behind.free counted in
     let few = behind.few in
     rw clock (omega arith)
 
 pub queue_all-requires-clause-records : goal.queue_all-requires-clause-records
 queue_all-requires-clause-records g c =
-    let late : Late g.row.C-State.Denot = c.self.inside.late in
+    let deferred : Deferred g.row.C-State.Denot = c.self.inside.deferred in
     let clock = c.clock.ensures.clock in
     let behind = rw (← c.self.view_is) at c.requires in
-    let counted : (c.self.inside.time.calls + (c.args.clock / CYCLES_PER_SAMPLE - c.self.inside.time.clock / CYCLES_PER_SAMPLE) ≤ c.args.calls) ⊎ (late.records_used ≡ late.events + 8 * late.pending) =
+    let counted : (c.self.inside.time.calls + (c.args.clock / CYCLES_PER_SAMPLE - c.self.inside.time.clock / CYCLES_PER_SAMPLE) ≤ c.args.calls) ⊎ (deferred.records_used ≡ deferred.events + 8 * deferred.pending) =
     elim behind.counted [
       | inl each ↦ inl each
       | inr none ↦ inr (c.holds_only_what_waits.ensures.records none)
     ] in
-    let fits = records_of_fallen late.records_used late.events late.pending (c.args.clock / CYCLES_PER_SAMPLE - c.self.inside.time.clock / CYCLES_PER_SAMPLE) c.self.inside.time.calls c.args.calls c.self.invariant.records c.self.invariant.events behind.free counted in
+    let fits = records_of_fallen deferred.records_used deferred.events deferred.pending (c.args.clock / CYCLES_PER_SAMPLE - c.self.inside.time.clock / CYCLES_PER_SAMPLE) c.self.inside.time.calls c.args.calls c.self.invariant.records c.self.invariant.events behind.free counted in
     let few = behind.few in
     rw clock (omega arith)
 
 pub invariant_of-self : goal.invariant_of-self
 invariant_of-self g c =
-    let late : Late g.row.C-State.Denot = c.self.inside.late in
+    let deferred : Deferred g.row.C-State.Denot = c.self.inside.deferred in
     let clock = c.clock.ensures.clock in
     let fallen = c.args.clock / CYCLES_PER_SAMPLE - c.self.inside.time.clock / CYCLES_PER_SAMPLE in
     let behind = rw (← c.self.view_is) at c.requires in
     let waits = c.holds_only_what_waits.ensures in
-    let counted_frames : (c.self.inside.time.calls + fallen ≤ c.args.calls) ⊎ (late.frames_used ≡ late.pending) =
+    let counted_frames : (c.self.inside.time.calls + fallen ≤ c.args.calls) ⊎ (deferred.frames_used ≡ deferred.pending) =
     elim behind.counted [
       | inl each ↦ inl each
       | inr none ↦ inr (waits.frames none)
     ] in
-    let counted_records : (c.self.inside.time.calls + fallen ≤ c.args.calls) ⊎ (late.records_used ≡ late.events + 8 * late.pending) =
+    let counted_records : (c.self.inside.time.calls + fallen ≤ c.args.calls) ⊎ (deferred.records_used ≡ deferred.events + 8 * deferred.pending) =
     elim behind.counted [
       | inl each ↦ inl each
       | inr none ↦ inr (waits.records none)
@@ -59,8 +59,8 @@ invariant_of-self g c =
       same_due = omega arith;
       pending = behind.free;
       events = c.self.invariant.events;
-      frames = frames_of_fallen late.frames_used late.pending fallen c.self.inside.time.calls c.args.calls c.self.invariant.frames behind.free counted_frames;
-      records = records_of_fallen late.records_used late.events late.pending fallen c.self.inside.time.calls c.args.calls c.self.invariant.records c.self.invariant.events behind.free counted_records;
+      frames = frames_of_fallen deferred.frames_used deferred.pending fallen c.self.inside.time.calls c.args.calls c.self.invariant.frames behind.free counted_frames;
+      records = records_of_fallen deferred.records_used deferred.events deferred.pending fallen c.self.inside.time.calls c.args.calls c.self.invariant.records c.self.invariant.events behind.free counted_records;
       adds_up = c.self.invariant.adds_up;
       time = omega arith;
       few = behind.few;

@@ -1,6 +1,6 @@
 use Rattle.std.proofs.Common.{arith}
 use Rattle.player.specs.Output.{stereo}
-use Rattle.player.specs.Player.{frames_of, memory_of, position_of, marks_of, room_of}
+use Rattle.player.specs.Player.{frames_of, memory_of, position_of, marks_of, pool_capacity}
 use Rattle.player.proofs.Keeping.{keeps_none, keeps_both}
 use Rattle.player.proofs.OwnMarking.{marks_none, marks_more}
 use Rattle.player.proofs.Putting.{played_none, played_more}
@@ -11,7 +11,7 @@ pieces-init g c = let player = c.args.self.now in record {
   few = omega arith;
   put = played_none stereo (frames_of g.C.Chip.meaning g.C.Chip.saving player) (position_of player) c.args.out.now c.position.ensures.run;
   there = omega arith;
-  marks = marks_none (room_of player) (memory_of g.C.Chip.meaning g.C.Chip.saving player) player.spacing (position_of player) (marks_of player);
+  marks = marks_none (pool_capacity player) (memory_of g.C.Chip.meaning g.C.Chip.saving player) player.spacing (position_of player) (marks_of player);
   made = omega (arith, c.position.ensures.counted);
   tune = keeps_none g.C.Chip.meaning g.C.Chip.saving player;
 }

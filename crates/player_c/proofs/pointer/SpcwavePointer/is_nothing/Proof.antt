@@ -47,20 +47,20 @@ pointer_good (block_ptr b o) = (tt, tt)
 pointer_good null_ptr = (tt, record { fits = lit< tt })
 
 -- an address may be compared with null, and it is null where no handle stands
-abbrev TellsHandle : Ptr → Option SpcwavePlayer → Type 0
-TellsHandle at handle = Testable at × ((null_test at).0 ≡ not (is_some handle))
+abbrev ShowsHandle : Ptr → Option SpcwavePlayer → Type 0
+ShowsHandle at handle = Testable at × ((null_test at).0 ≡ not (is_some handle))
 
-null_tells : (at : Ptr) → at ≡ null_ptr → TellsHandle at None
-null_tells at same = subst (λ (p : Ptr). TellsHandle p None) (sym same) (lit< tt, refl)
+null_shows_handle : (at : Ptr) → at ≡ null_ptr → ShowsHandle at None
+null_shows_handle at same = subst (λ (p : Ptr). ShowsHandle p None) (sym same) (lit< tt, refl)
 
 module _ {M : Type 1} {𝓤 : Ura M} (𝓛 : Logic 𝓤) where
-  tells : (at : Ptr) (handle : Option SpcwavePlayer) → (handle ≡ None → at ≡ null_ptr) → ent 𝓤 (sem 𝓛 (owns_handle at handle)) (guard 𝓤 (TellsHandle at handle) (sem 𝓛 (owns_handle at handle)))
-  tells at None null = guard_i 𝓤 (TellsHandle at None) (sem 𝓛 (owns_handle at None)) (null_tells at (null refl))
-  tells (block_ptr b o) (Some x) null =
+  shows_handle : (at : Ptr) (handle : Option SpcwavePlayer) → (handle ≡ None → at ≡ null_ptr) → ent 𝓤 (sem 𝓛 (owns_handle at handle)) (guard 𝓤 (ShowsHandle at handle) (sem 𝓛 (owns_handle at handle)))
+  shows_handle at None null = guard_i 𝓤 (ShowsHandle at None) (sem 𝓛 (owns_handle at None)) (null_shows_handle at (null refl))
+  shows_handle (block_ptr b o) (Some x) null =
       fact_use 𝓤 (Testable (block_ptr b o))
       (via 𝓤 (sem 𝓛 (chunk (bare (lone I.mir)) (block_ptr b o))) (snd∗ 𝓤 (sem 𝓛 (points_to I (block_ptr b o) x)) (sem 𝓛 (chunk (bare (lone I.mir)) (block_ptr b o)))) (dealloc_token-Testable 𝓛 heap (bare (lone I.mir)) (block_ptr b o)))
-      (λ t. guard_i 𝓤 (TellsHandle (block_ptr b o) (Some x)) (sem 𝓛 (owns_handle (block_ptr b o) (Some x))) (t, refl))
-  tells null_ptr (Some x) null = via 𝓤 (never 𝓤) (fst∗ 𝓤 (never 𝓤) (sem 𝓛 (chunk (bare (lone I.mir)) null_ptr))) (never_e 𝓤 _)
+      (λ t. guard_i 𝓤 (ShowsHandle (block_ptr b o) (Some x)) (sem 𝓛 (owns_handle (block_ptr b o) (Some x))) (t, refl))
+  shows_handle null_ptr (Some x) null = via 𝓤 (never 𝓤) (fst∗ 𝓤 (never 𝓤) (sem 𝓛 (chunk (bare (lone I.mir)) null_ptr))) (never_e 𝓤 _)
 
 abbrev stayed : Stays f.ended.signature.params f.ended.kept
 stayed = (stay_ref (0 ∷ []) tt (plain (λ _. R)), tt)
@@ -78,7 +78,7 @@ is_nothing_spec 𝓤 𝓛 𝓜 𝓡 wired =
     enter ! _ _ _ _ _ $ alloc_all ! (λ l. pass_all ! refl ((tt, tt), tt) $
     fsplit3 ! $ move ! (1 ∷ 2 ∷ 3 ∷ []) $ opens ! tt R rb ro (λ ws.
     move ! (1 ∷ []) $ peeks ! R _ (shows 𝓛 R) h ws (λ held. fsplit ! $ move ! (1 ∷ []) $
-    use1 𝓛 (given (TellsHandle h.at h.handle) (‵ (owns_handle h.at h.handle))) (tells 𝓛 h.at h.handle null) $ learn ! (λ known.
+    use1 𝓛 (given (ShowsHandle h.at h.handle) (‵ (owns_handle h.at h.handle))) (shows_handle 𝓛 h.at h.handle null) $ learn ! (λ known.
     let Cell = λ (us : List Val). ‵ (cell_at full_share R.mir us rb ro) in
     rewrite ! 2 Cell (lowers.val_is h ws held) refl $
     -- [what the handle's box owns; the fields; the pointer's cell; the open borrow, in three entries; what is left of the reference]
