@@ -10,10 +10,7 @@ ghost use Rattle.reach_map.specs.BlocksToEnd.{blocks_to_end};
 use crate::ChainStart;
 use crate::pages::{add_bytes, bytes_have_page};
 use aram_core::{Aram, PageSet};
-use brr_decode::has_end;
-
-/// The bytes of a block.
-pub const BLOCK_SIZE: u16 = 9;
+use brr_decode::{BLOCK_SIZE, block_after, has_end};
 
 /// The bytes of an entry of the directory.
 pub const ENTRY_SIZE: u16 = 4;
@@ -45,7 +42,7 @@ fn blocks_to_end(memory: &Aram, start: u16, most: u32) -> u32
         if has_end(memory.get(block)) {
             break;
         }
-        block = block.wrapping_add(BLOCK_SIZE);
+        block = block_after(block);
     }
     most - left
 }

@@ -8,4 +8,4 @@ pub loop-left-preserved : goal.loop-left-preserved
 loop-left-preserved c =
     let goes_on : has_end (byte_at c.args.memory.now c.loop-left.block) ≡ false = search rules in
     let on = blocks_go_on c.args.memory.now c.loop-left.block c.loop-left.left (c.loop-left.left - 1) (omega arith) goes_on in
-    record { so_far = omega (arith, on); within = omega arith }
+    rw c.block_after-block.ensures (record { so_far = omega (arith, on); within = omega arith })
