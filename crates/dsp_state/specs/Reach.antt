@@ -5,9 +5,9 @@ use Rattle.num_fix.specs.Arithmetic.{has_bit}
 use Rattle.voice_unit.specs.Directory.{entry_address, start_word, loop_word}
 use Rattle.voice_unit.specs.Voice.{VoiceState}
 use Rattle.echo_unit.specs.Flg.{has_echo_writes}
-use Rattle.reach_map.specs.Window.{echo_window}
+use Rattle.echo_unit.specs.Window.{echo_window}
 use Rattle.reach_map.specs.Reach.{reach, voice_pages}
-use Rattle.reach_map.specs.declared.Window.{Window}
+use Rattle.aram_core.specs.declared.window.Window.{Window}
 use Rattle.reach_map.specs.declared.ChainStart.{ChainStart}
 use Rattle.chip_form.specs.declared.pages.ReachPages.{ReachPages}
 use Rattle.dsp_state.specs.Registers.{voice_register}

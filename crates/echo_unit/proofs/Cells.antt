@@ -2,7 +2,7 @@
 use Rattle.std.proofs.Common.{◌≡◌, ℕ, ◌+◌, ◌*◌, ◌%◌, ◌<◌, ◌≤◌, max, List, Bool, true, false, ◌&&◌, ◌==◌, nat_le, nat_lt, if◌then◌else◌, refl, arith}
 use Rattle.std.proofs.lemmas.Bool.{and_parts, and_from}
 use Rattle.std.proofs.lemmas.Bool.Decides.{nat_tests}
-use Rattle.reach_map.specs.Window.{echo_length}
+use Rattle.echo_unit.specs.Window.{echo_length}
 use Rattle.echo_unit.specs.Echo.{EchoState, is_at_cell, at_next_cell, next_echo, after_reading}
 use Rattle.echo_unit.specs.declared.regs.EchoRegs.{EchoRegs}
 

@@ -1,7 +1,7 @@
 -- Where the echo stands after so many cells of a buffer that is longer than one cell: up to 64 of them are all apart.
 use Rattle.std.proofs.Common.{◌≡◌, ◌≢◌, ℕ, zero, suc, ◌+◌, ◌*◌, ◌%◌, ◌<◌, ◌≤◌, ◌==◌, nat_le, Bool, true, false, if◌then◌else◌, ◌⊎◌, inl, inr, refl, ap, ◌∙◌, arith}
 use Rattle.std.proofs.lemmas.Bool.Decides.{nat_tests}
-use Rattle.reach_map.specs.Window.{echo_length}
+use Rattle.echo_unit.specs.Window.{echo_length}
 use Rattle.echo_unit.specs.Echo.{EchoState, length_in_force, at_next_cell}
 use Rattle.echo_unit.specs.Cells.{after_cells, cell_after}
 use Rattle.echo_unit.specs.declared.regs.EchoRegs.{EchoRegs}

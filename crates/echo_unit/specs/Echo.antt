@@ -4,7 +4,7 @@ use Rattle.std.specs.Int.{w16, cast_signed, cast_unsigned}
 use Rattle.num_fix.specs.Arithmetic.{floor_shift, scaled, wrap16, clamp16, clear_bit0, sign8}
 use Rattle.num_fix.specs.declared.Frame.{Frame}
 use Rattle.aram_core.specs.Memory.{word_at, with_byte}
-use Rattle.reach_map.specs.Window.{echo_length}
+use Rattle.echo_unit.specs.Window.{echo_length}
 use Rattle.echo_unit.specs.declared.regs.EchoRegs.{EchoRegs}
 use Rattle.echo_unit.specs.Flg.{is_muted, has_echo_writes}
 use Rattle.echo_unit.specs.Fir.{filtered_sample}

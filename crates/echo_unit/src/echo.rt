@@ -1,6 +1,6 @@
 // The echo itself.
 ghost use Rattle.std.specs.Prelude.{◌≡◌, ◌<◌, ◌≤◌, ◌+◌, ◌*◌, ◌%◌, true, false, length, map, take};
-ghost use Rattle.reach_map.specs.Window.{echo_window};
+ghost use Rattle.echo_unit.specs.Window.{echo_window};
 ghost use Rattle.echo_unit.specs.Echo.{first_echo, is_at_cell, cell_address, with_newest, after_reading, length_in_force, at_next_cell, echo_heard, next_echo, echo_memory, output_frame, feedback_pair};
 ghost use Rattle.echo_unit.specs.Cells.{AreNeighbours, StandInLine, after_cells, with_cells};
 ghost use Rattle.echo_unit.specs.Flg.{has_echo_writes};

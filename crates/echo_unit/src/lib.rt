@@ -13,8 +13,8 @@ mod rows;
 mod volume;
 mod wrapped;
 
+pub use aram_core::Window;
 pub use echo::Echo;
 pub use flg::has_echo_writes;
-pub use reach_map::Window;
 pub use regs::EchoRegs;
 pub use rows::SumRows;

@@ -8,7 +8,7 @@ use Rattle.aram_core.specs.Memory.{word_at, with_byte}
 use Rattle.aram_core.specs.Pages.{page_of, has_page}
 use Rattle.aram_core.proofs.Bytes.{byte_at-with_byte_other}
 use Rattle.reach_map.specs.Reach.{window_pages}
-use Rattle.reach_map.specs.Window.{echo_window, echo_length}
+use Rattle.echo_unit.specs.Window.{echo_window, echo_length}
 use Rattle.echo_unit.specs.Echo.{EchoState, cell_address, halved_word, cell_pair, after_reading, next_echo, with_word, with_cell, echo_memory}
 use Rattle.echo_unit.specs.Flg.{has_echo_writes}
 use Rattle.echo_unit.specs.declared.regs.EchoRegs.{EchoRegs}

@@ -1,6 +1,6 @@
 -- Where the echo stands after samples.
 use Rattle.std.proofs.Common.{◌≡◌, ℕ, ◌≤◌, ◌==◌, max, List, Bool, true, false, if◌then◌else◌, arith}
-use Rattle.reach_map.specs.Window.{echo_length}
+use Rattle.echo_unit.specs.Window.{echo_length}
 use Rattle.echo_unit.specs.Echo.{EchoState, after_reading, at_next_cell, next_echo}
 use Rattle.echo_unit.specs.declared.regs.EchoRegs.{EchoRegs}
 

@@ -7,7 +7,7 @@ use Rattle.num_fix.specs.declared.Frame.{Frame}
 use Rattle.aram_core.specs.Memory.{byte_at, with_byte}
 use Rattle.aram_core.specs.Pages.{page_of, has_page}
 use Rattle.voice_unit.specs.declared.interface.VoiceOut.{VoiceOut}
-use Rattle.reach_map.specs.Window.{echo_length}
+use Rattle.echo_unit.specs.Window.{echo_length}
 use Rattle.echo_unit.specs.Echo.{EchoState, is_at_cell, cell_address, echo_memory}
 use Rattle.echo_unit.specs.Flg.{has_echo_writes}
 use Rattle.echo_unit.specs.declared.regs.EchoRegs.{EchoRegs}

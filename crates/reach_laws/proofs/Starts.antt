@@ -7,7 +7,7 @@ use Rattle.brr_decode.specs.Header.{next_block}
 use Rattle.voice_unit.specs.Directory.{start_word, loop_word}
 use Rattle.voice_unit.specs.Voice.{VoiceState}
 use Rattle.echo_unit.specs.Flg.{has_echo_writes}
-use Rattle.reach_map.specs.declared.Window.{Window}
+use Rattle.aram_core.specs.declared.window.Window.{Window}
 use Rattle.reach_map.specs.declared.ChainStart.{ChainStart}
 use Rattle.reach_map.specs.Reach.{chain, block_pages, chain_pages, entry_pages, voice_pages, window_pages, reach}
 use Rattle.dsp_state.specs.declared.registers.TheConstants.{FLG}

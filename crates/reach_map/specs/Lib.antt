@@ -1,5 +1,3 @@
--- Window: a part of memory that may wrap at its end, and the one in which the echo buffer lies.
-pub mod Window
 -- Reach: the pages that the samples to come can read and write.
 pub mod Reach
 -- Added: a set of pages with the pages of a list added.

@@ -5,7 +5,7 @@ use Rattle.std.specs.FinSet as set
 use Rattle.aram_core.specs.Memory.{byte_at}
 use Rattle.aram_core.specs.Pages.{page_of, have_common_page}
 use Rattle.brr_decode.specs.Header.{next_block}
-use Rattle.reach_map.specs.declared.Window.{Window}
+use Rattle.aram_core.specs.declared.window.Window.{Window}
 use Rattle.reach_map.specs.declared.ChainStart.{ChainStart}
 use Rattle.chip_form.specs.declared.pages.ReachPages.{ReachPages}
 

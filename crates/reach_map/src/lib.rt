@@ -10,18 +10,12 @@ ghost use Rattle.reach_map.specs.Reach.{reach};
 
 use crate::pages::window_pages;
 use crate::voices::voice_pages;
+pub use aram_core::Window;
 use aram_core::{Aram, PageSet};
 pub use brr_decode::BLOCK_SIZE;
 pub use chip_form::ReachPages;
 pub use pages::bytes_have_page;
 pub use voices::{CHAIN_BLOCKS, CHAIN_BYTES, ENTRY_SIZE, chain_has_page, entry_has_page};
-
-/// A part of memory: `len` bytes from `start` on, which go on at 0000h after FFFFh.
-#[derive(Clone, Copy, PartialEq, Eq)]
-pub struct Window {
-    pub start: u16,
-    pub len: u32,
-}
 
 /// Where a voice can be in its sample: a block, and the block to which it goes after one that ends.
 #[derive(Clone, Copy, Default)]

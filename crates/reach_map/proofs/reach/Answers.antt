@@ -3,7 +3,7 @@ use Rattle.std.specs.FinSet as set
 use Rattle.aram_core.specs.Pages.{Pages, have_common_page}
 use Rattle.reach_map.specs.Added.{with_pages}
 use Rattle.reach_map.specs.Reach.{reach, voice_pages, window_pages}
-use Rattle.reach_map.specs.declared.Window.{Window}
+use Rattle.aram_core.specs.declared.window.Window.{Window}
 use Rattle.reach_map.specs.declared.ChainStart.{ChainStart}
 use Rattle.reach_map.proofs.Added.{with_pages-from_list}
 use Rattle.reach_map.proofs.reach.Goals as goal

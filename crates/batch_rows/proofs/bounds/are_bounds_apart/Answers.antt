@@ -2,7 +2,7 @@ use Rattle.std.proofs.Common.{rules, ◌≡◌, ◌≤◌, ◌⊎◌, inl, inr, 
 use Rattle.std.proofs.lemmas.List.{drop_more}
 use Rattle.std.proofs.Math.ListN.{drop_of_length-le}
 use Rattle.voice_unit.specs.Voice.{VoiceState}
-use Rattle.reach_map.specs.declared.Window.{Window}
+use Rattle.aram_core.specs.declared.window.Window.{Window}
 use Rattle.dsp_state.specs.Reach.{chip_window}
 use Rattle.dsp_state.specs.declared.state.ChipState.{ChipState}
 use Rattle.batch_rows.specs.BoundingPages.{window_from, bounding_pages_of_chip, IsVoiceApart}

@@ -1,6 +1,6 @@
--- Windows of memory. A window that passes FFFFh goes on at 0000h.
+-- The window of memory in which the echo buffer lies.
 use Rattle.std.specs.Prelude.{ℕ, ◌*◌, ◌%◌, max}
-use Rattle.reach_map.specs.declared.Window.{Window}
+use Rattle.aram_core.specs.declared.window.Window.{Window}
 
 -- the bytes of echo that the register EDL asks for: its low four bits count units of 2,048 bytes
 abbrev pub echo_length : (edl : ℕ) → ℕ
