@@ -126,7 +126,8 @@ pub fn stream<H: Host, P: Pieces>(
 ) -> Result<(), Failed>
     requires { CanDeliver (H.state host.old) }
     ensures { let outputs = stream_outputs wave.now (option_map (λ name. name.now) trace.entry) head.now (P.to_come source.old) in
-        Follows (DeliversAs at_once (length (ended_of (H.state host.old).calls) + 2) outputs (P.report source.old)) (H.state host.old) (H.state host.new) result }
+        let first = length (ended_of (H.state host.old).calls) + 2 in
+        Follows (DeliversAs at_once first outputs (P.report source.old)) (H.state host.old) (H.state host.new) result }
 {
     fill_outputs(host, wave, trace, head, source)?;
     write_all(host, REPORT, source.report())
