@@ -365,10 +365,10 @@ MUTANTS = [
     Mutant('a read is for the echo before it is for a register', ['lag_bus'], ['tests_tunes'], [
         ('lag_bus/specs/Book.antt', 'if at == 0xF3 && chip.is_result (dsp_address % 0x80) then Some Register\n    else if may_be_written reach at then Some Echo',
          'if may_be_written reach at then Some Echo\n    else if at == 0xF3 && chip.is_result (dsp_address % 0x80) then Some Register'),
-        ('lag_bus/src/cause.rt', 'if at == 0xF3 && chip.is_result(dsp_address % 0x80) {\n        Some(Cause::Register)\n'
-         '    } else if chip.writes_page(memory, page_of(at)) {\n        Some(Cause::Echo)\n',
-         'if chip.writes_page(memory, page_of(at)) {\n        Some(Cause::Echo)\n'
-         '    } else if at == 0xF3 && chip.is_result(dsp_address % 0x80) {\n        Some(Cause::Register)\n')]),
+        ('lag_bus/src/deferred_chip.rt', 'if at == 0xF3 && self.chip.is_result(dsp_address % 0x80) {\n            Some(Cause::Register)\n'
+         '        } else if self.is_written(at) {\n            Some(Cause::Echo)\n',
+         'if self.is_written(at) {\n            Some(Cause::Echo)\n'
+         '        } else if at == 0xF3 && self.chip.is_result(dsp_address % 0x80) {\n            Some(Cause::Register)\n')]),
 
     # rates, noise, timers and ports
     Mutant('rate 1 fires every 1,024 samples', ['rate_clock'], ['tests_parts'], [

@@ -2,6 +2,7 @@
 // the bus itself passes cycles. Its small calls are in line with those of the bus.
 ghost use Rattle.std.specs.Prelude.{◌≡◌, ◌+◌, ◌-◌, ◌<◌, ◌≤◌};
 ghost use Rattle.ports_timers.specs.Limits.{clock_limit};
+ghost use Rattle.ports_timers.specs.Zeros.{counter_is_0};
 ghost use Rattle.ports_timers.specs.Io.{read_answer, after_read, after_write, after_ticks_of};
 ghost use Rattle.lag_bus.specs.Clocked.{clocked_after};
 
@@ -154,5 +155,17 @@ impl ClockedIo {
         tick_through(&mut self.io, self.ticked, cycles);
         self.ticked = self.clock;
         self.io.write(at, value);
+    }
+}
+
+/// Whether an address is of no output counter, or of one that is 0.
+pub fn counter_is_0(io: &Io, at: u16) -> bool
+    ensures { result ≡ counter_is_0 io.now at }
+{
+    match at {
+        0xFD => io.timer0.output == 0,
+        0xFE => io.timer1.output == 0,
+        0xFF => io.timer2.output == 0,
+        _ => true,
     }
 }

@@ -4,13 +4,13 @@ ghost use Rattle.aram_core.specs.Memory.{byte_at, with_byte};
 ghost use Rattle.chip_form.specs.Samples.{samples, AddsSamples, count_after};
 ghost use Rattle.lag_bus.specs.Book.{may_be_read, may_be_written, cause_of_read, cause_of_write};
 ghost use Rattle.lag_bus.specs.Held.{IsMemoryAlone};
-ghost use Rattle.lag_bus.specs.Deferred.{deferred_with_sample, AreWritesWithin, AreReadsWithin};
+ghost use Rattle.lag_bus.specs.Deferred.{deferred_with_sample, deferred_with_samples, AreWritesWithin, AreReadsWithin};
 ghost use Rattle.trace_form.specs.Capacities.{frame_capacity, record_capacity, event_capacity};
 ghost use Rattle.chip_form.specs.Limits.{max_samples_of_batch, max_samples_of_chip};
 ghost use Rattle.lock_step.specs.SampleNumbers.{sample_number};
 ghost use Rattle.lag_bus.specs.Ready.{is_before_sample, ready_frames, waiting_frames, ready_records, waiting_records, NoneIsReady};
 
-use crate::cause::{self, Cause};
+use crate::cause::Cause;
 use crate::merging::merge_into;
 use crate::reach_cache::ReachCache;
 use aram_core::{Aram, page_of};
@@ -209,7 +209,13 @@ impl<C: Chip> DeferredChip<C> {
     pub fn cause_of_read(&self, dsp_address: u8, at: u16) -> Option<Cause>
         ensures { result ≡ cause_of_read C.meaning self.now.reach dsp_address at }
     {
-        cause::cause_of_read(&self.chip, &self.memory, dsp_address, at)
+        if at == 0xF3 && self.chip.is_result(dsp_address % 0x80) {
+            Some(Cause::Register)
+        } else if self.is_written(at) {
+            Some(Cause::Echo)
+        } else {
+            None
+        }
     }
 
     /// The cause for which a write has the pending samples made first.
@@ -482,5 +488,18 @@ impl<C: Chip> DeferredChip<C> {
             voices,
             ring,
         }
+    }
+}
+
+/// Counts some samples more.
+pub fn queue_all<C: Chip>(deferred: &mut DeferredChip<C>, fallen: u8)
+    requires few { deferred.old.pending + fallen ≤ max_samples_of_batch }
+    requires number { deferred.old.due + fallen ≤ max_samples_of_chip }
+    requires frames { deferred.old.frames_used + fallen ≤ frame_capacity }
+    requires records { deferred.old.records_used + 8 * fallen ≤ record_capacity }
+    ensures { deferred.new ≡ deferred_with_samples C.meaning deferred.old fallen }
+{
+    'samples: for _ in 0..fallen {
+        deferred.queue();
     }
 }

@@ -1,4 +1,24 @@
 // A bus that makes samples late, many at once.
+//
+// What an access runs. Each call decides what it can, and leaves the rest to the one below it:
+//
+//     CachedClockBus::read      memory alone that no pending sample writes, as a mark shows
+//       read_later              the bus catches up with the cached clock
+//         read_memory_first     memory alone, and nothing is pending
+//           LagBus::read        page 0 where a mark shows that no pending sample writes it: mostly a port
+//             read_unmarked     memory: the pending samples are made first if they may write there
+//               read_register   F3h: they are made first if they write that register
+//
+//     CachedClockBus::write     memory alone that no pending sample reads, as a mark shows
+//       write_later             the bus catches up with the cached clock
+//         LagBus::write         memory: the pending samples are made first if they may read there
+//           write_io            F0h to FFh: the pending samples are made first if there is a cause
+//             write_now             none is pending
+//             write_beside_pending  they stay pending
+//
+//     CachedClockBus::pass      no batch is full before the end of these cycles
+//       pass_later              the bus catches up with the cached clock
+//         LagBus::pass          a sample more is pending where one falls due; a full batch is made
 ghost use Rattle.std.specs.Prelude.{◌≡◌, ◌+◌, ◌*◌, ◌/◌, ◌-◌, ◌<◌, ◌≤◌, ◌%◌, ◌++◌, ◌∷◌, [], ◌==◌, unwrap_or, ◌||◌, not, true, false, length, if◌then◌else◌, IfOk};
 ghost use Rattle.aram_core.specs.Memory.{byte_at, with_byte};
 ghost use Rattle.spc700_exec.specs.Bus.{max_calls};
@@ -21,12 +41,11 @@ ghost use Rattle.lag_bus.specs.Held.{IsMemoryAlone};
 use crate::OutOfMemory;
 use crate::cached_clock_bus::take_steps;
 use crate::cause::Cause;
-use crate::clocked::ClockedIo;
+use crate::clocked::{ClockedIo, counter_is_0};
 use crate::counting::{counts_with_batch, no_counts};
 use crate::deferred_bus::DeferredBus;
-use crate::deferred_chip::{DeferredChip, is_in_hand};
+use crate::deferred_chip::{DeferredChip, is_in_hand, queue_all};
 use crate::saved::BusState;
-use crate::waiting::{counter_is_0, queue_all};
 use aram_core::Aram;
 use chip_form::Chip;
 use idle_loops::{ReadOnlyBus, try_iteration};

@@ -12,7 +12,6 @@ mod laws;
 mod merging;
 mod reach_cache;
 mod saved;
-mod waiting;
 
 pub use lag::LagBus;
 pub use laws::{

@@ -2,7 +2,7 @@ use Rattle.std.proofs.Common.{sym, ap, ◌∙◌}
 use Rattle.lag_bus.specs.Deferred.{Deferred}
 use Rattle.lag_bus.proofs.PendingSamples.{deferred_with_samples-none, deferred_with_samples-more}
 use Rattle.lag_bus.specs.Deferred.{deferred_with_sample}
-use Rattle.lag_bus.proofs.waiting.queue_all.Goals as goal
+use Rattle.lag_bus.proofs.deferred_chip.queue_all.Goals as goal
 
 pub samples-init : goal.samples-init
 samples-init g c = sym (deferred_with_samples-none g.C.Chip.meaning c.args.deferred.now)
