@@ -6,12 +6,13 @@ use Rattle.snd_host.specs.Calls.{Call, opened, not_opened, read, not_read, creat
 use Rattle.snd_host.specs.Host.{HostState, Files, IsOpen}
 use Rattle.snd_host.specs.History.{ended_of, AreTrueOf, AreSteadyCalls, rooms_after, rooms_over}
 use Rattle.snd_host.specs.Follows.{pushed, Makes, Since, IsCut, IsWrite, AreWrites, bytes_written}
+use Rattle.snd_host.proofs.EachCall.{each_then, write_is}
 
 pub pushed_more : (xs ys before : List Call) → pushed (xs ++ ys) before ≡ pushed ys (pushed xs before)
 pushed_more [] ys before = refl
 pushed_more (x ∷ xs) ys before = pushed_more xs ys (x ∷ before)
 
-rooms_over-append : (xs ys : List Call) (rooms : List ℕ) → rooms_over (xs ++ ys) rooms ≡ rooms_over ys (rooms_over xs rooms)
+pub rooms_over-append : (xs ys : List Call) (rooms : List ℕ) → rooms_over (xs ++ ys) rooms ≡ rooms_over ys (rooms_over xs rooms)
 rooms_over-append [] ys rooms = refl
 rooms_over-append (x ∷ xs) ys rooms = rooms_over-append xs ys (rooms_after x rooms)
 
@@ -57,10 +58,6 @@ since_more calls call a b c first made = since_then calls (call ∷ []) a b c fi
 pub no_writes : (file : ℕ) → AreWrites file [] []
 no_writes file = record { each = tt; joined = refl }
 
-each_more : (file : ℕ) (xs ys : List Call) → AllByRecursion (IsWrite file) xs → AllByRecursion (IsWrite file) ys → AllByRecursion (IsWrite file) (xs ++ ys)
-each_more file [] ys first second = second
-each_more file (x ∷ xs) ys first second = (first.0, each_more file xs ys first.1 second)
-
 pub bytes_more : (xs ys : List Call) → bytes_written (xs ++ ys) ≡ bytes_written xs ++ bytes_written ys
 bytes_more [] ys = refl
 bytes_more (wrote f bytes ∷ xs) ys = ap (λ (l : List ℕ). bytes ++ l) (bytes_more xs ys) ∙ sym (append_assoc bytes (bytes_written xs) (bytes_written ys))
@@ -74,25 +71,12 @@ bytes_more (not_written n piece ∷ xs) ys = bytes_more xs ys
 bytes_more (finished n ∷ xs) ys = bytes_more xs ys
 bytes_more (not_finished n ∷ xs) ys = bytes_more xs ys
 
--- what holds of each write of some bytes to an output
-pub write_is : (file : ℕ) (P : Call → Type 0) → ((bytes : List ℕ) → bytes ≢ [] → P (wrote file bytes)) → (c : Call) → IsWrite file c → P c
-write_is file P holds (wrote f bytes) is = subst (λ (n : ℕ). P (wrote n bytes)) (sym is.0) (holds bytes is.1)
-write_is file P holds (opened name n) is = absurd is
-write_is file P holds (not_opened name) is = absurd is
-write_is file P holds (read n room bytes) is = absurd is
-write_is file P holds (not_read n room) is = absurd is
-write_is file P holds (created name n) is = absurd is
-write_is file P holds (not_created name) is = absurd is
-write_is file P holds (not_written n piece) is = absurd is
-write_is file P holds (finished n) is = absurd is
-write_is file P holds (not_finished n) is = absurd is
-
 pub one_write : (file : ℕ) (bytes : List ℕ) → bytes ≢ [] → AreWrites file bytes (wrote file bytes ∷ [])
 one_write file bytes some = record { each = ((refl, some), tt); joined = append-nil bytes }
 
 pub writes_then : (file : ℕ) (p q : List ℕ) (xs ys : List Call) → AreWrites file p xs → AreWrites file q ys → AreWrites file (p ++ q) (xs ++ ys)
 writes_then file p q xs ys first second = record {
-  each = each_more file xs ys first.each second.each;
+  each = each_then (IsWrite file) xs ys first.each second.each;
   joined = bytes_more xs ys ∙ ap (λ (l : List ℕ). l ++ bytes_written ys) first.joined ∙ ap (λ (l : List ℕ). p ++ l) second.joined;
 }
 

@@ -1,12 +1,13 @@
 -- What writes come to: their output is given their bytes. Cut ones wrote a prefix, and the last one is counted.
-use Rattle.std.proofs.Common.{◌≡◌, ◌≢◌, ℕ, Bool, false, List, [], ◌∷◌, ◌++◌, refl, sym, ap, ◌∙◌, subst, arith, if◌then◌else◌}
+use Rattle.std.proofs.Common.{◌≡◌, ◌≢◌, ℕ, Bool, false, List, [], ◌∷◌, refl, sym, ap, ◌∙◌, subst, arith, if◌then◌else◌}
 use Rattle.std.specs.Prelude.{◌==◌}
 use Rattle.std.specs.List.{AllByRecursion}
-use Rattle.snd_host.specs.Calls.{Call, wrote, not_written}
-use Rattle.snd_host.specs.Host.{Given, IsPrefix, given_with, next_count}
+use Rattle.snd_host.specs.Calls.{Call, not_written}
+use Rattle.snd_host.specs.Host.{given_with, next_count}
 use Rattle.snd_host.specs.History.{given_of, note_faults, out_faults}
 use Rattle.snd_host.specs.Follows.{pushed, failure_of, IsCut, IsWrite, AreWrites, AddsPart, bytes_written}
-use Rattle.snd_host.proofs.CallsInOrder.{pushed_more, bytes_more, write_is, kept-writes}
+use Rattle.snd_host.proofs.CallsInOrder.{pushed_more, bytes_more, kept-writes}
+use Rattle.snd_host.proofs.EachCall.{all_first, one_of, write_is}
 use Rattle.snd_host.proofs.Writes.{given_with-nil, given_with-given_with}
 
 given_of-each : (file : ℕ) (calls before : List Call) → AllByRecursion (IsWrite file) calls → given_of (pushed calls before) ≡ given_with (given_of before) file (bytes_written calls)
@@ -20,10 +21,6 @@ pub given_of-writes : (file : ℕ) (bytes : List ℕ) (calls before : List Call)
 given_of-writes file bytes calls before writes = given_of-each file calls before writes.each ∙ ap (given_with (given_of before) file) writes.joined
 
 -- Writes that were cut.
-
-each_parts : (P : Call → Type 0) (xs ys : List Call) (y : Call) → AllByRecursion P (xs ++ y ∷ ys) → AllByRecursion P xs × P y
-each_parts P [] ys y each = (tt, each.0)
-each_parts P (x ∷ xs) ys y each = let rest = each_parts P xs ys y each.1 in ((each.0, rest.0), rest.1)
 
 counts_note : (file : ℕ) (piece : List ℕ) (before : List Call) → file ≡ 1 →
     (note_faults (not_written file piece ∷ before) ≡ next_count (note_faults before)) × (out_faults (not_written file piece ∷ before) ≡ out_faults before)
@@ -57,7 +54,7 @@ cut_adds file bytes calls before cut = record {
     front = pushed cut.done before
 
     parts : AllByRecursion (IsWrite file) cut.done × IsWrite file cut.call
-    parts = each_parts (IsWrite file) cut.done cut.rest cut.call cut.whole.each
+    parts = (all_first (IsWrite file) cut.done (cut.call ∷ cut.rest) cut.whole.each, one_of (IsWrite file) cut.done cut.rest cut.call cut.whole.each)
 
     last : pushed calls before ≡ failure_of cut.call ∷ front
     last = ap (λ (l : List Call). pushed l before) cut.cut ∙ pushed_more cut.done (failure_of cut.call ∷ []) before

@@ -3,7 +3,7 @@ use Rattle.std.specs.Prelude.{◌≡◌, ◌≢◌, ℕ, List, [], ◌∷◌, �
 use Rattle.std.specs.List.{AllByRecursion}
 use Rattle.snd_host.specs.Calls.{Call, opened, not_opened, read, not_read, created, not_created, wrote, not_written, finished, not_finished}
 use Rattle.snd_host.specs.Host.{HostState, IfKnown, IsPrefix, given_with, next_count}
-use Rattle.snd_host.specs.History.{given_of, note_faults, out_faults, IsTrueOf, AreTrueOf, IsSteadyCall, AreSteadyCalls, rooms_after, rooms_over}
+use Rattle.snd_host.specs.History.{given_of, in_faults, note_faults, out_faults, IsTrueOf, AreTrueOf, IsSteadyCall, AreSteadyCalls, rooms_after, rooms_over}
 
 -- calls in their order, after those before, whose newest is the first
 abbrev pub pushed : List Call → (before : List Call) → List Call
@@ -82,3 +82,15 @@ pub record AddsPart (file : ℕ) (bytes : List ℕ) (before now : List Call) : T
   -- It is counted once, that of the complaint among its own, and every other one among those of outputs.
   pub note : file ≡ 1 → (note_faults now ≡ next_count (note_faults before)) × (out_faults now ≡ out_faults before)
   pub output : file ≢ 1 → (out_faults now ≡ next_count (out_faults before)) × (note_faults now ≡ note_faults before)
+
+-- Each count of faults is what it was.
+pub record KeepsCounts (old new : List Call) : Type 0 where
+  pub inputs : in_faults new ≡ in_faults old
+  pub notes : note_faults new ≡ note_faults old
+  pub outputs : out_faults new ≡ out_faults old
+
+-- One failed call for inputs was counted, and no other.
+pub record CountsInput (old new : List Call) : Type 0 where
+  pub inputs : in_faults new ≡ next_count (in_faults old)
+  pub notes : note_faults new ≡ note_faults old
+  pub outputs : out_faults new ≡ out_faults old
