@@ -1,58 +1,26 @@
 -- What holds of each kind of call holds of each call that is made for inputs, for outputs and the report, or for a line of complaint.
-use Rattle.std.proofs.Common.{◌≡◌, ◌≢◌, ◌⊎◌, inl, inr, ℕ, ◌+◌, ◌≤◌, ◌<◌, Bool, true, false, List, [], ◌∷◌, ◌++◌, length, Some, refl, sym, subst, if◌then◌else◌, arith}
+use Rattle.std.proofs.Common.{◌≡◌, ◌≢◌, ◌⊎◌, inl, inr, ℕ, ◌+◌, ◌≤◌, Bool, true, false, List, [], ◌∷◌, Some, refl, sym, subst, if◌then◌else◌, arith}
 use Rattle.std.specs.Prelude.{◌==◌, ◌||◌}
 use Rattle.std.specs.List.{AllByRecursion, list_any}
 use Rattle.std.proofs.lemmas.Bool.{eqb-true}
-use Rattle.snd_host.specs.Calls.{Call, opened, not_opened, read, not_read, created, not_created, wrote, not_written, finished, not_finished}
+use Rattle.snd_host.specs.Calls.{Call, opened, read, created, wrote, finished}
 use Rattle.snd_host.specs.Host.{Output}
-use Rattle.snd_host.specs.Follows.{IsWrite, AreWrites}
-use Rattle.snd_host.specs.Takes.{Takes, GivesSome}
-use Rattle.snd_host.proofs.Taking.{either}
+use Rattle.snd_host.specs.Follows.{AreWrites}
+use Rattle.snd_host.specs.Takes.{Takes}
+use Rattle.snd_host.proofs.EachCall.{Each, each_as, each_then, each_written}
+use Rattle.snd_host.proofs.EachTaken.{each_taken}
 use Rattle.command_runner.specs.Answer.{Answer, done, refused}
 use Rattle.command_runner.specs.InOrder.{Then}
 use Rattle.command_runner.specs.NamedInputs.{NamedInput, TakesInOrder}
 use Rattle.command_runner.specs.OutputCalls.{Target, IsWriteTo, numbered, creations, endings, MakesAtOnce, MakesInTurn, MakesAs, Order, at_once, in_turn}
 use Rattle.command_runner.specs.RunCalls.{DeliversAnswer}
-use Rattle.command_runner.proofs.Woven.{write_is, write_to_is, each_as, each_then}
-
-pub all_first : (P : Call → Type 0) (xs ys : List Call) → AllByRecursion P (xs ++ ys) → AllByRecursion P xs
-all_first P [] ys each = tt
-all_first P (x ∷ xs) ys each = (each.0, all_first P xs ys each.1)
-
-pub one_of : (P : Call → Type 0) (xs ys : List Call) (y : Call) → AllByRecursion P (xs ++ y ∷ ys) → P y
-one_of P [] ys y each = each.0
-one_of P (x ∷ xs) ys y each = one_of P xs ys y each.1
-
--- All that a thing is done by has this property.
-abbrev pub Each : (Call → Type 0) → (List Call → Type 0) → Type 0
-Each P Does = (calls : List Call) → Does calls → AllByRecursion P calls
+use Rattle.command_runner.proofs.Woven.{write_to_is}
 
 each_of_both : (P : Call → Type 0) (A B : List Call → Type 0) → Each P A → Each P B → Each P (Then A B)
 each_of_both P A B first second calls t = subst (AllByRecursion P) (sym t.split) (each_then P t.front t.back (first t.front t.does_first) (second t.back t.does_second))
 
 -- Calls for inputs: opens and reads.
 module _ (P : Call → Type 0) (of_open : (name : List ℕ) (file : ℕ) → P (opened name file)) (of_read : (file room : ℕ) (bytes : List ℕ) → P (read file room bytes)) where
-  read_is : (file : ℕ) (c : Call) → GivesSome file c → P c
-  read_is file (read n room bytes) h = of_read n room bytes
-  read_is file (opened name n) h = absurd h
-  read_is file (not_opened name) h = absurd h
-  read_is file (not_read n room) h = absurd h
-  read_is file (created name n) h = absurd h
-  read_is file (not_created name) h = absurd h
-  read_is file (wrote n bytes) h = absurd h
-  read_is file (not_written n piece) h = absurd h
-  read_is file (finished n) h = absurd h
-  read_is file (not_finished n) h = absurd h
-
-  each_taken : (name : List ℕ) (limit : ℕ) (bytes : List ℕ) → Each P (Takes name limit bytes)
-  each_taken name limit bytes calls takes =
-      subst (AllByRecursion P) (sym takes.split)
-      (each_then P (opened name takes.file ∷ takes.reads) takes.end (of_open name takes.file, each_as (GivesSome takes.file) P (read_is takes.file) takes.reads takes.each) (last (either (length bytes) limit)))
-    where
-      last : (length bytes ≤ limit) ⊎ (limit < length bytes) → AllByRecursion P takes.end
-      last (inl short) = let one = takes.ends.whole short in subst (AllByRecursion P) (sym one.2) (of_read takes.file one.0 [], tt)
-      last (inr long) = subst (AllByRecursion P) (sym (takes.ends.long long)) tt
-
   each_of_rest : (b : Bool) (inputs : List NamedInput) (given : List (List ℕ)) → Each P (TakesInOrder inputs given) → Each P (TakesInOrder (if b then inputs else []) given)
   each_of_rest true inputs given each = each
   each_of_rest false inputs given each = λ calls none. subst (AllByRecursion P) (sym none.1) tt
@@ -61,12 +29,8 @@ module _ (P : Call → Type 0) (of_open : (name : List ℕ) (file : ℕ) → P (
   each_for_inputs [] given = λ calls none. subst (AllByRecursion P) (sym none.1) tt
   each_for_inputs (input ∷ inputs) [] = λ calls wrong. absurd wrong
   each_for_inputs (input ∷ inputs) (bytes ∷ given) =
-      each_of_both P (Takes input.name input.limit bytes) (TakesInOrder (if input.accepts (Some bytes) then inputs else []) given) (each_taken input.name input.limit bytes)
+      each_of_both P (Takes input.name input.limit bytes) (TakesInOrder (if input.accepts (Some bytes) then inputs else []) given) (each_taken P of_open of_read input.name input.limit bytes)
       (each_of_rest (input.accepts (Some bytes)) inputs given (each_for_inputs inputs given))
-
--- Writes to the output of this number.
-pub each_written : (file : ℕ) (bytes : List ℕ) (P : Call → Type 0) → ((piece : List ℕ) → piece ≢ [] → P (wrote file piece)) → Each P (AreWrites file bytes)
-each_written file bytes P of_write calls writes = each_as (IsWrite file) P (write_is file P of_write) calls writes.each
 
 or_true : (a b : Bool) → (a || b) ≡ true → (a ≡ true) ⊎ (b ≡ true)
 or_true true b h = inl h

@@ -19,9 +19,10 @@ use Rattle.command_runner.specs.Stream.{pair, IsTrace, AreTargets, IsOpenAfter, 
 use Rattle.command_runner.specs.declared.refusals.Refusal.{Refusal}
 use Rattle.command_runner.specs.declared.refusals.Refusal.TheVariants.{Usage, ReadFault, WriteFault, OutOfMemory, Input}
 use Rattle.command_runner.specs.declared.streaming.Targets.{Targets}
-use Rattle.command_runner.proofs.EachCall.{Each, each_for_inputs, each_written}
-use Rattle.command_runner.proofs.Kept.{Keeps, kept, kept_cut, kept_begun}
-use Rattle.command_runner.proofs.Woven.{write_to_is, each_as}
+use Rattle.snd_host.proofs.EachCall.{Each, each_written, each_as}
+use Rattle.snd_host.proofs.Kept.{Keeps, kept, kept_cut, kept_begun}
+use Rattle.command_runner.proofs.EachCall.{each_for_inputs}
+use Rattle.command_runner.proofs.Woven.{write_to_is}
 
 -- Calls on inputs and writes.
 
@@ -160,8 +161,8 @@ finish_counts n a b (Err e) made = ap (λ (l : List Call). length (ended_of l)) 
 
 -- Outputs that were made one after another are so many more.
 
-one_counts : (n : ℕ) (output : Output) (calls history : List Call) → MakesAtOnce n (output ∷ []) calls → length (ended_of (pushed calls history)) ≡ length (ended_of history) + 1
-one_counts n output calls history t =
+pub one_flag : (n : ℕ) (output : Output) (calls history : List Call) → MakesAtOnce n (output ∷ []) calls → ended_of (pushed calls history) ≡ set (ended_of history ++ false ∷ []) (n - 2) true
+one_flag n output calls history t =
     let rest = t.does_second in
     let mid = pushed t.front history in
     let last = pushed rest.front mid in
@@ -169,8 +170,11 @@ one_counts n output calls history t =
     let ended : ended_of (pushed rest.back last) ≡ set (ended_of last) (n - 2) true = ap (λ (l : List Call). ended_of (pushed l last)) rest.does_second in
     let wrote : ended_of last ≡ ended_of mid = writes_keep (numbered n (output ∷ [])) rest.front mid rest.does_first.each in
     let made : ended_of mid ≡ ended_of history ++ false ∷ [] = ap (λ (l : List Call). ended_of (pushed l history)) t.does_first in
-    ap (λ (l : List Call). length (ended_of l)) split ∙ ap (length {A = Bool}) ended ∙ length-set (ended_of last) (n - 2) true
-    ∙ ap (length {A = Bool}) (wrote ∙ made) ∙ length-append (ended_of history) (false ∷ [])
+    ap ended_of split ∙ ended ∙ ap (λ (l : List Bool). set l (n - 2) true) (wrote ∙ made)
+
+one_counts : (n : ℕ) (output : Output) (calls history : List Call) → MakesAtOnce n (output ∷ []) calls → length (ended_of (pushed calls history)) ≡ length (ended_of history) + 1
+one_counts n output calls history t =
+    ap (length {A = Bool}) (one_flag n output calls history t) ∙ length-set (ended_of history ++ false ∷ []) (n - 2) true ∙ length-append (ended_of history) (false ∷ [])
 
 in_turn_counts : (n : ℕ) (outputs : List Output) (calls history : List Call) → MakesInTurn n outputs calls → length (ended_of (pushed calls history)) ≡ length (ended_of history) + length outputs
 in_turn_counts n [] calls history none = ap (λ (l : List Call). length (ended_of (pushed l history))) none ∙ omega arith

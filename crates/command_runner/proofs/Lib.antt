@@ -2,9 +2,9 @@ pub mod Attempting
 pub mod EachCall
 pub mod Flags
 pub mod Fronts
-pub mod Kept
-pub mod OutputBytes
+pub mod FrontsHeld
 pub mod OutputsMade
+pub mod Phases
 pub mod PlainRuns
 pub mod Sequences
 pub mod Woven

@@ -11,8 +11,8 @@ use Rattle.command_runner.specs.PlainCalls.{IsPlain, OnlyLastFails}
 use Rattle.command_runner.specs.RunCalls.{DeliversAnswer, EndsBy, AreNoted}
 use Rattle.command_runner.specs.declared.refusals.Refusal.{Refusal}
 use Rattle.command_runner.specs.declared.refusals.Refusal.TheVariants.{Usage, ReadFault, WriteFault, OutOfMemory, Input}
-use Rattle.command_runner.proofs.EachCall.{Each, all_first, one_of, each_for_inputs, each_for_outputs, each_written}
-use Rattle.command_runner.proofs.Woven.{each_then}
+use Rattle.snd_host.proofs.EachCall.{Each, all_first, one_of, each_written, each_then}
+use Rattle.command_runner.proofs.EachCall.{each_for_inputs, each_for_outputs}
 
 -- All that a thing is done by is plain.
 abbrev AllPlain : List Call → Type 0

@@ -7,6 +7,7 @@ use Rattle.snd_host.specs.Calls.{Call, opened, not_opened, read, not_read, creat
 use Rattle.snd_host.specs.Host.{HostState}
 use Rattle.snd_host.specs.Follows.{Follows, IsWrite, AreWrites, bytes_written}
 use Rattle.snd_host.specs.declared.host.Failed.{Failed}
+use Rattle.snd_host.proofs.EachCall.{each_as, each_then, write_is}
 use Rattle.command_runner.specs.InOrder.{Then}
 use Rattle.command_runner.specs.OutputCalls.{Target, IsWriteTo, AreWoven, both, bytes_to}
 use Rattle.command_runner.proofs.Sequences.{Can, can_write, then_of, follows_then, follows_failed, follows_as}
@@ -22,20 +23,7 @@ same_number n = grind (arith)
 pub other_number : (n m : ℕ) → n ≢ m → (n == m) ≡ false
 other_number n m other = grind (arith)
 
--- What holds of each write to an output holds of such a call.
-pub write_is : (file : ℕ) (P : Call → Type 0) → ((bytes : List ℕ) → bytes ≢ [] → P (wrote file bytes)) → (c : Call) → IsWrite file c → P c
-write_is file P all (wrote n bytes) h = subst (λ (k : ℕ). P (wrote k bytes)) (sym h.0) (all bytes h.1)
-write_is file P all (opened name n) h = absurd h
-write_is file P all (not_opened name) h = absurd h
-write_is file P all (read n room bytes) h = absurd h
-write_is file P all (not_read n room) h = absurd h
-write_is file P all (created name n) h = absurd h
-write_is file P all (not_created name) h = absurd h
-write_is file P all (not_written n piece) h = absurd h
-write_is file P all (finished n) h = absurd h
-write_is file P all (not_finished n) h = absurd h
-
--- and of a write to one of several, of such a call
+-- What holds of each write to one of several outputs holds of such a call.
 pub write_to_is : (targets : List Target) (P : Call → Type 0) → ((file : ℕ) (bytes : List ℕ) → list_any (λ target. target.0 == file) targets ≡ true → bytes ≢ [] → P (wrote file bytes)) → (c : Call) → IsWriteTo targets c → P c
 write_to_is targets P all (wrote file bytes) h = all file bytes h.0 h.1
 write_to_is targets P all (opened name file) h = absurd h
@@ -47,14 +35,6 @@ write_to_is targets P all (not_created name) h = absurd h
 write_to_is targets P all (not_written file piece) h = absurd h
 write_to_is targets P all (finished file) h = absurd h
 write_to_is targets P all (not_finished file) h = absurd h
-
-pub each_as : (P Q : Call → Type 0) → ((c : Call) → P c → Q c) → (calls : List Call) → AllByRecursion P calls → AllByRecursion Q calls
-each_as P Q h [] each = tt
-each_as P Q h (c ∷ calls) each = (h c each.0, each_as P Q h calls each.1)
-
-pub each_then : (P : Call → Type 0) (xs ys : List Call) → AllByRecursion P xs → AllByRecursion P ys → AllByRecursion P (xs ++ ys)
-each_then P [] ys first second = second
-each_then P (x ∷ xs) ys first second = (first.0, each_then P xs ys first.1 second)
 
 one_to : (file : ℕ) (targets : List Target) → list_any (λ target. target.0 == file) targets ≡ true → (c : Call) → IsWrite file c → IsWriteTo targets c
 one_to file targets is = write_is file (IsWriteTo targets) (λ bytes some. (is, some))

@@ -7,15 +7,16 @@ use Rattle.std.proofs.lemmas.List.{append_assoc, append-nil}
 use Rattle.snd_host.specs.Calls.{Call, wrote}
 use Rattle.snd_host.specs.Host.{Output, next_count}
 use Rattle.snd_host.specs.Follows.{pushed, failure_of, IsCut, IsBegun, IsWrite, AreWrites, bytes_written}
-use Rattle.snd_host.proofs.CallsInOrder.{pushed_more, bytes_more}
+use Rattle.snd_host.proofs.CallsInOrder.{bytes_more}
 use Rattle.command_runner.specs.Answer.{Answer}
 use Rattle.command_runner.specs.NamedInputs.{NamedInput, TakesInOrder}
 use Rattle.command_runner.specs.OutputCalls.{Order}
 use Rattle.command_runner.specs.RunCalls.{DeliversAnswer}
-use Rattle.command_runner.proofs.Woven.{write_is, other_number}
+use Rattle.snd_host.proofs.EachCall.{write_is, Each, all_first, one_of, each_written}
+use Rattle.snd_host.proofs.Kept.{Keeps, kept, cut_is, kept_cut, kept_begun}
+use Rattle.command_runner.proofs.Woven.{other_number}
 use Rattle.snd_host.specs.History.{given_of, ended_of, in_faults, note_faults, out_faults}
-use Rattle.command_runner.proofs.Kept.{Keeps, kept, cut_is, kept_cut, kept_begun}
-use Rattle.command_runner.proofs.EachCall.{Each, all_first, one_of, each_for_inputs, each_for_outputs, each_written}
+use Rattle.command_runner.proofs.EachCall.{each_for_inputs, each_for_outputs}
 
 pub record Counts : Type 0 where
   pub inputs : ℕ

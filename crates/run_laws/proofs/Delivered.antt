@@ -1,16 +1,16 @@
 -- What a delivery is by its calls, where its outputs are made at once: its first call creates the first output, each output is created and ended, and
 -- to each of them and to the report its bytes are written.
-use Rattle.std.proofs.Common.{◌≡◌, ◌≢◌, ℕ, ◌+◌, ◌≤◌, List, [], ◌∷◌, ◌++◌, Option, Some, None, refl, sym, ap, ◌∙◌, subst, arith}
+use Rattle.std.proofs.Common.{◌≡◌, ℕ, ◌+◌, ◌≤◌, List, [], ◌∷◌, ◌++◌, Option, Some, None, refl, sym, ap, ◌∙◌, subst, arith}
 use Rattle.std.specs.List.{AllByRecursion}
 use Rattle.std.proofs.lemmas.List.{append_assoc, append-nil}
 use Rattle.snd_host.specs.Calls.{Call, created, finished}
-use Rattle.snd_host.specs.Follows.{AreWrites}
 use Rattle.snd_host.specs.Host.{Output, IfKnown}
 use Rattle.command_runner.specs.OutputCalls.{bytes_to, creations, endings, numbered, DeliversAs, at_once}
 use Rattle.command_runner.specs.Stream.{pair}
 use Rattle.command_runner.proofs.Woven.{bytes_more, none_to, woven_first}
 use Rattle.run_laws.specs.Rendered.{IsAmong, IsWhole}
-use Rattle.run_laws.proofs.Unwritten.{bytes_to-creations, bytes_to-endings, makes_unwritten}
+use Rattle.command_runner.proofs.Phases.{bytes_to-creations, bytes_to-endings}
+use Rattle.run_laws.proofs.Unwritten.{makes_unwritten}
 
 -- The calls that are among those of a part are among all.
 

@@ -8,7 +8,8 @@ use Rattle.snd_host.specs.Host.{Files, Output}
 use Rattle.snd_host.specs.Follows.{IsCut, IsWrite, AreWrites}
 use Rattle.command_runner.specs.Delivery.{HaveRooms}
 use Rattle.command_runner.specs.OutputCalls.{Target, numbered, IsWriteTo, bytes_to, AreWoven, creations, endings, MakesAtOnce, MakesInTurn, MakesAs, Order, at_once, in_turn, DeliversAs}
-use Rattle.command_runner.proofs.Woven.{write_is, each_as, none_to, woven_first}
+use Rattle.snd_host.proofs.EachCall.{write_is, each_as}
+use Rattle.command_runner.proofs.Woven.{none_to, woven_first}
 use Rattle.snd_host.specs.History.{ended_of, rooms_over, AreSteadyCalls}
 use Rattle.run_laws.proofs.Rooms.{length-rooms_over, index-rooms_over_unwritten}
 use Rattle.run_laws.proofs.Unwritten.{higher_number, bytes_to-unwritten, at_once_unwritten, makes_unwritten}

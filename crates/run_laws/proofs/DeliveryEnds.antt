@@ -1,8 +1,7 @@
 -- On a steady host with room no command ends with an output that couldn't be written: the calls for its inputs leave the rooms and the number of outputs
 -- as they are, so its delivery begins with room for all of it.
-use Rattle.std.proofs.Common.{◌≡◌, ℕ, ◌+◌, ◌≤◌, List, [], ◌∷◌, ◌++◌, Some, length, refl, sym, ap, ◌∙◌, subst}
+use Rattle.std.proofs.Common.{◌≡◌, ℕ, ◌+◌, ◌≤◌, List, ◌++◌, Some, length, refl, sym, ap, ◌∙◌, subst}
 use Rattle.std.specs.Prelude.{Option, slice_index}
-use Rattle.std.specs.List.{AllByRecursion}
 use Rattle.snd_host.specs.Calls.{Call}
 use Rattle.snd_host.specs.Host.{Files}
 use Rattle.snd_host.specs.Follows.{pushed, IsCut}
@@ -15,7 +14,7 @@ use Rattle.command_runner.specs.declared.refusals.Refusal.TheVariants.{WriteFaul
 use Rattle.snd_host.specs.History.{ended_of, AreSteadyCalls}
 use Rattle.run_laws.proofs.Delivering.{delivery_not_cut}
 use Rattle.command_runner.proofs.EachCall.{each_for_inputs}
-use Rattle.command_runner.proofs.Kept.{Keeps, kept}
+use Rattle.snd_host.proofs.Kept.{Keeps, kept}
 use Rattle.run_laws.proofs.RoomsKept.{rooms_over-taken}
 use Rattle.run_laws.proofs.Steadily.{AreSteadyCalls-append}
 

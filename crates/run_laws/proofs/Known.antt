@@ -1,11 +1,14 @@
 -- A run by what the names hold. Where its inputs were read, what they gave is answered as what their names hold. Where one could not be read or memory
 -- was wanting, nothing is left, whatever is answered.
-use Rattle.std.proofs.Common.{◌≡◌, ◌≢◌, ◌⊎◌, inl, inr, ℕ, List, [], ◌++◌, Option, Some, None, refl, sym, ap, ◌∙◌, subst}
+use Rattle.std.proofs.Common.{◌≡◌, ◌≢◌, ◌⊎◌, inl, inr, ℕ, List, ◌++◌, Option, Some, None, refl, sym, ap, ◌∙◌, subst}
+use Rattle.std.specs.Prelude.{slice_get}
 use Rattle.std.proofs.lemmas.List.{append-nil}
 use Rattle.snd_host.specs.Calls.{Call}
-use Rattle.snd_host.specs.History.{given_of, ended_of, in_faults, AreTrueOf}
+use Rattle.snd_host.specs.History.{given_of, in_faults, AreTrueOf}
 use Rattle.snd_host.specs.Host.{HostState, Files}
+use Rattle.snd_host.specs.Takes.{GaveFront}
 use Rattle.snd_host.proofs.Writes.{rose}
+use Rattle.command_runner.proofs.FrontsHeld.{each_gave_front}
 use Rattle.command_runner.specs.Answer.{Answer, done, refused, refusal_of}
 use Rattle.command_runner.specs.NamedInputs.{NamedInput, Held, TakesInOrder}
 use Rattle.command_runner.specs.OutputCalls.{Order}
@@ -65,6 +68,13 @@ module _ (command : Command) (old new : HostState) (status : Status) (run : IsRu
   answer_is other =
       answer-given files (inputs_of command) (answer_by command) run.given run.taken old.calls (goes_by command)
       (takes_of (order_of command) (answer_by command) (inputs_of command) run.refusal _ run.given run.taken run.made other.0 other.1 run.ends) true_of_taken
+
+  pub fronts_given : status ≢ statuses.ReadFault → status ≢ statuses.OutOfMemory → (place : ℕ) (input : NamedInput) (bytes : List ℕ) → slice_get (inputs_of command) place ≡ Some input → slice_get run.given place ≡ Some bytes →
+      GaveFront files input.name input.limit bytes
+  fronts_given not_read not_memory place input bytes =
+      each_gave_front files (inputs_of command) run.given run.taken old.calls place input bytes
+      (takes_of (order_of command) (answer_by command) (inputs_of command) run.refusal _ run.given run.taken run.made (λ is. not_read (run.status_is ∙ ap status_of is)) (λ is. not_memory (run.status_is ∙ ap status_of is)) run.ends)
+      true_of_taken
 
   pub answer_known : status ≢ statuses.ReadFault → status ≢ statuses.OutOfMemory → answered run ≡ answer_of command files
   answer_known not_read not_memory = answer_is ((λ is. not_read (run.status_is ∙ ap status_of is)), (λ is. not_memory (run.status_is ∙ ap status_of is)))

@@ -12,12 +12,11 @@ use Rattle.snd_host.proofs.CallsInOrder.{pushed_more, bytes_more}
 use Rattle.command_runner.specs.Delivery.{IsBegun, EndedAreWhole, AreEndedInOrder, all_ended}
 use Rattle.command_runner.specs.InOrder.{Then}
 use Rattle.command_runner.specs.OutputCalls.{IsWriteTo, AreWoven, AreCreations, AreEndings, numbered, creations, endings, bytes_to, MakesAtOnce, MakesInTurn, MakesAs, DeliversAs, Order, at_once, in_turn}
-use Rattle.command_runner.proofs.Woven.{write_is}
+use Rattle.snd_host.proofs.EachCall.{write_is, all_first}
 use Rattle.command_runner.proofs.Woven as woven
 use Rattle.command_runner.proofs.Fronts.{BeginsThen, begins_first, begins_second, begins_then}
 use Rattle.snd_host.specs.History.{given_of, ended_of}
 use Rattle.run_laws.proofs.Counting.{Standing, standing}
-use Rattle.command_runner.proofs.EachCall.{all_first}
 use Rattle.run_laws.proofs.Making.{grown, grown_none, grown_twice, flag_each, begun_by, none_ended, written, ended_by, after_creations, after_writes, after_endings}
 
 -- Parts of outputs.

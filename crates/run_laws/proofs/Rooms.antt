@@ -12,10 +12,6 @@ use Rattle.snd_host.specs.History.{rooms_after, rooms_over}
 pub index-rooms_less_other : (rooms : List ℕ) (file k count : ℕ) → k ≢ file → get_or (rooms_less rooms file count) k 0 ≡ get_or rooms k 0
 index-rooms_less_other rooms file k count other = get_or-set_other rooms file k (get_or rooms file 0 - count) 0 other
 
-pub rooms_over-append : (xs ys : List Call) (rooms : List ℕ) → rooms_over (xs ++ ys) rooms ≡ rooms_over ys (rooms_over xs rooms)
-rooms_over-append [] ys rooms = refl
-rooms_over-append (x ∷ xs) ys rooms = rooms_over-append xs ys (rooms_after x rooms)
-
 -- as many outputs have a room
 pub length-rooms_over : (calls : List Call) (rooms : List ℕ) → length (rooms_over calls rooms) ≡ length rooms
 length-rooms_over [] rooms = refl

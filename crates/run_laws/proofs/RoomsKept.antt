@@ -1,54 +1,25 @@
 -- The calls for inputs leave all rooms, and those for outputs and the report leave the room of the complaint: they write nothing to it.
-use Rattle.std.proofs.Common.{◌≡◌, ℕ, ◌≤◌, List, [], ◌∷◌, ◌++◌, Some, None, refl, sym, ap, ◌∙◌, subst}
+use Rattle.std.proofs.Common.{◌≡◌, ℕ, ◌≤◌, List, [], ◌++◌, Some, None, refl, sym, ap, ◌∙◌, subst}
 use Rattle.std.specs.Prelude.{Option, slice_index}
 use Rattle.std.specs.List.{AllByRecursion}
-use Rattle.snd_host.specs.Calls.{Call, opened, not_opened, read, not_read, created, not_created, wrote, not_written, finished, not_finished}
-use Rattle.snd_host.specs.Follows.{failure_of, IsCut, IsBegun}
+use Rattle.snd_host.specs.Calls.{Call}
 use Rattle.command_runner.specs.Answer.{Answer}
 use Rattle.command_runner.specs.NamedInputs.{NamedInput, Held, held_of, TakesInOrder}
 use Rattle.command_runner.specs.OutputCalls.{Order}
 use Rattle.command_runner.specs.RunCalls.{DeliversAnswer, EndsBy}
 use Rattle.command_runner.specs.declared.refusals.Refusal.{Refusal}
 use Rattle.command_runner.specs.declared.refusals.Refusal.TheVariants.{Usage, ReadFault, WriteFault, OutOfMemory, Input}
-use Rattle.command_runner.proofs.Woven.{each_then}
-use Rattle.snd_host.specs.History.{rooms_after, rooms_over}
-use Rattle.command_runner.proofs.EachCall.{Each, all_first, each_for_inputs, each_for_outputs}
+use Rattle.snd_host.proofs.EachCall.{Each, each_of_cut, each_of_front}
+use Rattle.snd_host.proofs.CallsInOrder.{rooms_over-append}
+use Rattle.snd_host.proofs.RoomsLeft.{Leaves, rooms_as_they_are, left, failure_leaves}
+use Rattle.snd_host.specs.History.{rooms_over}
+use Rattle.command_runner.proofs.EachCall.{each_for_inputs, each_for_outputs}
 use Rattle.run_laws.proofs.Counting.{no_complaint}
-use Rattle.run_laws.proofs.Rooms.{rooms_over-append, index-rooms_less_other}
+use Rattle.run_laws.proofs.Rooms.{index-rooms_less_other}
 
--- What is seen of the rooms is the same after a call.
-abbrev Leaves : {A : Type 0} → (seen : List ℕ → A) → Call → Type 0
-Leaves seen call = (rooms : List ℕ) → seen (rooms_after call rooms) ≡ seen rooms
-
--- all rooms, or that of the complaint
-abbrev rooms_as_they_are : List ℕ → List ℕ
-rooms_as_they_are rooms = rooms
-
+-- the room of the complaint
 abbrev room_of_complaint : List ℕ → ℕ
 room_of_complaint rooms = slice_index rooms 1
-
-left : {A : Type 0} (seen : List ℕ → A) (calls : List Call) (rooms : List ℕ) → AllByRecursion (Leaves seen) calls → seen (rooms_over calls rooms) ≡ seen rooms
-left seen [] rooms each = refl
-left seen (c ∷ calls) rooms each = left seen calls (rooms_after c rooms) each.1 ∙ each.0 rooms
-
-failure_leaves : {A : Type 0} (seen : List ℕ → A) (c : Call) → Leaves seen (failure_of c)
-failure_leaves seen (opened name n) = λ rooms. refl
-failure_leaves seen (not_opened name) = λ rooms. refl
-failure_leaves seen (read n room bytes) = λ rooms. refl
-failure_leaves seen (not_read n room) = λ rooms. refl
-failure_leaves seen (created name n) = λ rooms. refl
-failure_leaves seen (not_created name) = λ rooms. refl
-failure_leaves seen (wrote n bytes) = λ rooms. refl
-failure_leaves seen (not_written n piece) = λ rooms. refl
-failure_leaves seen (finished n) = λ rooms. refl
-failure_leaves seen (not_finished n) = λ rooms. refl
-
-each_of_cut : (P : Call → Type 0) (Does : List Call → Type 0) → ((c : Call) → P (failure_of c)) → Each P Does → Each P (IsCut Does)
-each_of_cut P Does of_failure each calls cut =
-    subst (AllByRecursion P) (sym cut.cut) (each_then P cut.done (failure_of cut.call ∷ []) (all_first P cut.done (cut.call ∷ cut.rest) (each _ cut.whole)) (of_failure cut.call, tt))
-
-each_of_front : (P : Call → Type 0) (Does : List Call → Type 0) → Each P Does → Each P (IsBegun Does)
-each_of_front P Does each calls begun = all_first P calls begun.rest (each _ begun.whole)
 
 inputs_leave : (inputs : List NamedInput) (given : List (List ℕ)) → Each (Leaves rooms_as_they_are) (TakesInOrder inputs given)
 inputs_leave = each_for_inputs (Leaves rooms_as_they_are) (λ name file rooms. refl) (λ file room bytes rooms. refl)

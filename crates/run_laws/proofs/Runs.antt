@@ -5,7 +5,7 @@ use Rattle.std.specs.Prelude.{unwrap_or, IsTrue}
 use Rattle.std.proofs.lemmas.List.{append-nil}
 use Rattle.snd_host.specs.Calls.{Call}
 use Rattle.snd_host.specs.Host.{Output, IsPrefix, next_count, Rose}
-use Rattle.snd_host.specs.Follows.{pushed, bytes_written, IsCut, AreWrites}
+use Rattle.snd_host.specs.Follows.{pushed, bytes_written, IsCut, AreWrites, KeepsCounts}
 use Rattle.snd_host.proofs.CallsInOrder.{pushed_more, bytes_more}
 use Rattle.snd_host.proofs.Writes.{rose}
 use Rattle.command_runner.specs.Answer.{Answer, refusal_of, outputs_of}
@@ -21,7 +21,7 @@ use Rattle.exit_status.specs.declared.status.Status.TheVariants as statuses
 use Rattle.exit_status.specs.Statuses.{status_of, answer_status, end_without_numbers}
 use Rattle.exit_status.specs.Lines.{end_line, status_line}
 use Rattle.snd_host.specs.History.{given_of, ended_of, in_faults, note_faults, out_faults}
-use Rattle.run_laws.specs.Left.{Leaves, LeavesNothing, LeavesAll, LeavesPart, ReportsLast, Complains, KeepsCounts, NoneRose}
+use Rattle.run_laws.specs.Left.{Leaves, LeavesNothing, LeavesAll, LeavesPart, ReportsLast, Complains, NoneRose}
 use Rattle.exit_status.proofs.Ends.{IsEnd, plain_is, line_end, same_end}
 use Rattle.run_laws.proofs.Counting.{Counts, counts_of, Standing, standing, note_counts, note_left, note_cut_counts, note_cut_left, no_cut_of_none}
 use Rattle.run_laws.proofs.Making.{grown, grown_none}

@@ -13,11 +13,11 @@ use Rattle.command_runner.specs.InOrder.{Then}
 use Rattle.command_runner.specs.Answer.{Answer, refused}
 use Rattle.command_runner.specs.NamedInputs.{NamedInput, Held, held_by, TakesInOrder}
 use Rattle.command_runner.specs.declared.refusals.Refusal.TheVariants.{ReadFault}
-use Rattle.command_runner.proofs.Woven.{each_as, each_then}
+use Rattle.snd_host.proofs.EachCall.{each_as, each_then, one_of}
 use Rattle.run_laws.specs.GoesBy.{GoesBy, GoesByFirst}
 use Rattle.snd_host.specs.History.{AreTrueOf, AreSteadyCalls, IsSteadyCall, rooms_after, rooms_over}
-use Rattle.run_laws.proofs.Cuts.{IsInEither, in_either, no_cut}
-use Rattle.command_runner.proofs.EachCall.{one_of}
+use Rattle.command_runner.proofs.Fronts.{IsInEither, in_either}
+use Rattle.run_laws.proofs.Cuts.{no_cut}
 use Rattle.snd_host.proofs.Held.{AreTrueOf-append, gave_front}
 use Rattle.run_laws.proofs.Given.{answer-front}
 

@@ -1,20 +1,13 @@
 -- Where nothing is written to an output: by the calls that make others.
-use Rattle.std.proofs.Common.{◌≡◌, ◌≢◌, ℕ, ◌+◌, ◌≤◌, ◌<◌, Bool, true, false, List, [], ◌∷◌, ◌++◌, length, refl, sym, ap, ◌∙◌, arith, if◌then◌else◌}
+use Rattle.std.proofs.Common.{◌≡◌, ℕ, ◌+◌, ◌≤◌, ◌<◌, Bool, true, false, List, [], ◌∷◌, ◌++◌, length, refl, sym, ap, ◌∙◌, arith, if◌then◌else◌}
 use Rattle.std.specs.Prelude.{◌==◌}
 use Rattle.std.specs.List.{AllByRecursion, list_any}
 use Rattle.std.proofs.lemmas.Bool.{or_from}
 use Rattle.snd_host.specs.Calls.{Call, opened, not_opened, read, not_read, created, not_created, wrote, not_written, finished, not_finished}
 use Rattle.snd_host.specs.Host.{Output}
-use Rattle.command_runner.specs.OutputCalls.{Target, numbered, IsWriteTo, bytes_to, creations, endings, MakesAtOnce, MakesInTurn, MakesAs, Order, at_once, in_turn}
+use Rattle.command_runner.specs.OutputCalls.{Target, numbered, IsWriteTo, bytes_to, MakesAtOnce, MakesInTurn, MakesAs, Order, at_once, in_turn}
+use Rattle.command_runner.proofs.Phases.{bytes_to-creations, bytes_to-endings}
 use Rattle.command_runner.proofs.Woven.{bytes_more, other_number}
-
-pub bytes_to-creations : (file n : ℕ) (outputs : List Output) → bytes_to file (creations n outputs) ≡ []
-bytes_to-creations file n [] = refl
-bytes_to-creations file n (o ∷ outputs) = bytes_to-creations file (n + 1) outputs
-
-pub bytes_to-endings : (file : ℕ) (targets : List Target) → bytes_to file (endings targets) ≡ []
-bytes_to-endings file [] = refl
-bytes_to-endings file (t ∷ targets) = bytes_to-endings file targets
 
 -- numbers before those of the outputs, and after them
 pub lower_number : (file n : ℕ) (outputs : List Output) → file < n → list_any (λ target. target.0 == file) (numbered n outputs) ≡ false

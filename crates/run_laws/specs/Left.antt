@@ -45,12 +45,6 @@ pub record Complains (line : List ℕ) (old new : List Call) : Type 0 where
   pub all : (Rose (note_faults old) (note_faults new) → ⊥) → complaint ≡ line
   pub once : (note_faults new ≡ note_faults old) ⊎ (note_faults new ≡ next_count (note_faults old))
 
--- Each count of faults is what it was.
-pub record KeepsCounts (old new : List Call) : Type 0 where
-  pub inputs : in_faults new ≡ in_faults old
-  pub notes : note_faults new ≡ note_faults old
-  pub outputs : out_faults new ≡ out_faults old
-
 -- No count of faults rose.
 pub record NoneRose (old new : List Call) : Type 0 where
   pub inputs : Rose (in_faults old) (in_faults new) → ⊥

@@ -1,5 +1,6 @@
 // Laws of runs, from the calls that they make.
 ghost use Rattle.std.specs.Prelude.{◌≡◌, ◌≢◌, ◌⊎◌, ◌↔◌, ◌+◌, ◌++◌, ℕ, List, length, IsTrue};
+ghost use Rattle.snd_host.specs.Follows.{KeepsCounts};
 ghost use Rattle.snd_host.specs.Host.{HostState, next_count};
 ghost use Rattle.snd_host.specs.History.{ended_of, in_faults, out_faults};
 ghost use Rattle.command_runner.specs.NamedInputs.{are_some};
@@ -11,7 +12,7 @@ ghost use Rattle.exit_status.specs.Statuses.{answer_status};
 ghost use Rattle.exit_status.specs.declared.status.Status.{Status};
 ghost use Rattle.exit_status.specs.declared.status.Status.TheVariants as statuses;
 ghost use Rattle.run_laws.specs.Answers.{inputs_of};
-ghost use Rattle.run_laws.specs.Left.{LeavesNothing, LeavesAll, LeavesPart, ReportsLast, Complains, KeepsCounts, NoneRose};
+ghost use Rattle.run_laws.specs.Left.{LeavesNothing, LeavesAll, LeavesPart, ReportsLast, Complains, NoneRose};
 ghost use Rattle.run_laws.specs.Run.{IsRun, answered};
 ghost use Rattle.run_laws.specs.Rendered.{WritesFrames};
 

@@ -29,4 +29,5 @@ pub use truth::{
     the_complaint_has_the_numbers_of_what_the_names_hold,
     the_report_of_what_the_names_hold_comes_last, what_could_not_be_written_is_left_in_part,
     what_could_not_be_written_was_answered, what_was_read_answers_as_what_the_names_hold,
+    what_was_read_is_the_front_of_what_the_names_hold,
 };

@@ -1,6 +1,8 @@
 //! What follows where it is known what the names hold.
-ghost use Rattle.std.specs.Prelude.{◌≡◌, ◌≢◌, ◌⊎◌};
+ghost use Rattle.std.specs.Prelude.{◌≡◌, ◌≢◌, ◌⊎◌, ℕ, List, slice_get, Some};
 ghost use Rattle.snd_host.specs.Host.{HostState, IfKnown};
+ghost use Rattle.snd_host.specs.Takes.{GaveFront};
+ghost use Rattle.command_runner.specs.NamedInputs.{NamedInput};
 ghost use Rattle.command_line.specs.Command.{Command};
 ghost use Rattle.exit_status.specs.Lines.{status_line};
 ghost use Rattle.exit_status.specs.Statuses.{answer_status};
@@ -20,6 +22,13 @@ pub fn every_answer_goes_by_the_inputs()
 pub fn what_was_read_answers_as_what_the_names_hold()
     ensures { (command : Command) (old new : HostState) (status : Status) (run : IsRun command old new status) → IfKnown old.holds (λ files.
         status ≢ statuses.ReadFault → status ≢ statuses.OutOfMemory → answered run ≡ answer_of command files) }
+{}
+
+/// What each of them gave is the front of what its name holds, up to its limit and one byte.
+pub fn what_was_read_is_the_front_of_what_the_names_hold()
+    ensures { (command : Command) (old new : HostState) (status : Status) (run : IsRun command old new status) → IfKnown old.holds (λ files.
+        status ≢ statuses.ReadFault → status ≢ statuses.OutOfMemory → (place : ℕ) (input : NamedInput) (bytes : List ℕ) →
+        slice_get (inputs_of command) place ≡ Some input → slice_get run.given place ≡ Some bytes → GaveFront files input.name input.limit bytes) }
 {}
 
 /// Where the status is the answer's, its outputs were created with all their bytes and ended, and its report was written.
