@@ -538,7 +538,7 @@ MUTANTS = [
     Mutant("a voice's right volume without a sign", ['dsp_state'], ['tests_sounds'], [
         (VOLUMES, 'sign8 (voice_register registers v VOLR)', 'pos (voice_register registers v VOLR)'),
         (VOLUMES_CODE, 'sign8(voice_register(registers, v, VOLR)) as i16', 'i16::from(voice_register(registers, v, VOLR))')]),
-    Mutant('OUTX without the sign of the output', ['num_fix', 'voice_unit'], ['tests_sounds'], [
+    Mutant('OUTX without the sign of the output', ['num_fix', 'voice_unit', 'voice_batch'], ['tests_sounds'], [
         ('num_fix/specs/Arithmetic.antt', 'high_byte z = unsigned_abs (int_rem_euclid (floor_shift z 8) (pos 256))', 'high_byte z = unsigned_abs z / 0x100'),
         (LEVEL, '(out >> 8).rem_euclid(0x100) as u8', '((if out < 0 { 0 - out as i32 } else { out as i32 }) >> 8) as u8')]),
     Mutant('a register is written by an address from 80h on', ['dsp_state', 'dsp_core'], ['tests_sounds'], [
@@ -547,15 +547,15 @@ MUTANTS = [
         (OUTSIDE, 'if address == KON', 'if address % 0x80 == KON'),
         (DSP_CODE, '        if addr >= 0x80 {\n            return;\n        }\n        self.fresh', '        self.fresh'),
         (DSP_CODE, 'let place = usize::from(addr);', 'let place = usize::from(addr % 0x80);')]),
-    Mutant('a block without an end bit sets its bit of ENDX, too', ['voice_unit'], ['tests_sounds'], [
+    Mutant('a block without an end bit sets its bit of ENDX, too', ['voice_unit', 'voice_batch'], ['tests_sounds'], [
         (VOICE, 'is_at_last_group v && has_end header', 'is_at_last_group v'),
-        ('voice_unit/specs/Row.antt', 'at.offset == 7 && has_end (byte_at memory at.block)', 'at.offset == 7'),
-        ('voice_unit/src/span_plan.rt', 'if has_end(last.header) {', 'if true {'),
+        ('voice_batch/specs/Row.antt', 'at.offset == 7 && has_end (byte_at memory at.block)', 'at.offset == 7'),
+        ('voice_batch/src/span_plan.rt', 'if has_end(last.header) {', 'if true {'),
         (VOICE_CODE, 'self.offset == LAST_GROUP && has_end(header)', 'self.offset == LAST_GROUP')]),
-    Mutant('a key on looks at the header of the block before it', ['voice_unit'], ['tests_sounds'], [
+    Mutant('a key on looks at the header of the block before it', ['voice_unit', 'voice_batch'], ['tests_sounds'], [
         (VOICE, 'if v.delay == 5 then 0 else byte_at memory v.block', 'byte_at memory v.block'),
         (VOICE_CODE, 'match self.delay {\n            KEY_ON_DELAY => 0,\n            _ => memory.get(self.block),\n        }', 'memory.get(self.block)')]),
-    Mutant('a key off is taken in each sample', ['voice_unit'], ['tests_sounds'], [
+    Mutant('a key off is taken in each sample', ['voice_unit', 'voice_batch'], ['tests_sounds'], [
         (VOICE, 'if i.poll && i.koff then', 'if i.koff then'), (VOICE_CODE, 'if input.poll && input.koff {', 'if input.koff {')]),
     Mutant('a directory of one page', ['voice_unit'], ['tests_sounds'], [
         (DIRECTORY, '(dir * 0x100 + srcn * 4) % 0x10000', 'dir * 0x100 + srcn * 4 % 0x100'),
@@ -616,7 +616,7 @@ MUTANTS = [
         (RESULTS_CODE, 'without_bits (bit_or endx ended) keyed', 'bit_or (without_bits endx keyed) ended'), (RESULTS_CODE, '(endx | ended) & (0xff - keyed)', '(endx & (0xff - keyed)) | ended')]),
 
     # voices
-    Mutant('a delay of four after a key on', ['voice_unit'], ['tests_sounds'], [
+    Mutant('a delay of four after a key on', ['voice_unit', 'voice_batch'], ['tests_sounds'], [
         (VOICE, 'v.delay == 5 then 0', 'v.delay == 4 then 0'), (VOICE, 'v.delay == 5 then start', 'v.delay == 4 then start'),
         (VOICE, 'v.delay == 5 then 1', 'v.delay == 4 then 1'), (VOICE, 'is_keyed i then 5', 'is_keyed i then 4'), (VOICE_CODE, 'KEY_ON_DELAY: u8 = 5', 'KEY_ON_DELAY: u8 = 4')]),
     Mutant('keys polled at odd samples', ['dsp_state', 'batch_rows'], ['tests_sounds'], [
@@ -626,13 +626,13 @@ MUTANTS = [
         (DIRECTORY, '{2}word_at memory ((entry_address dir srcn + 2) % 0x10000)', 'word_at memory (entry_address dir srcn)'),
         (DIRECTORY_CODE, '{1}memory.word(entry_address(dir, srcn)', 'memory.word(entry_address(dir, srcn).wrapping_add(2)'),
         (DIRECTORY_CODE, '{2}memory.word(entry_address(dir, srcn).wrapping_add(2)', 'memory.word(entry_address(dir, srcn)')]),
-    Mutant('a pitch modulated by 16ths of an output', ['voice_unit'], ['tests_sounds'], [
+    Mutant('a pitch modulated by 16ths of an output', ['voice_unit', 'voice_batch'], ['tests_sounds'], [
         (VOICE, '(floor_shift previous 5) (pos pitch) 10', '(floor_shift previous 4) (pos pitch) 11'),
         (LEVEL, '(floor_shift previous 5) (pos pitch) 10', '(floor_shift previous 4) (pos pitch) 11'),
-        (LEVEL, 'scaled(previous >> 5, pitch as i16, 10)', 'scaled(previous >> 4, pitch as i16, 11)'), (LEVEL, '(previous >> 5) * 32', '(previous >> 4) * 16')]),
-    Mutant('a bit of PMON modulates the voice after its own', ['voice_unit'], ['tests_sounds'], [
+        (LEVEL, 'scaled(previous >> 5, pitch as i16, 10)', 'scaled(previous >> 4, pitch as i16, 11)'), ('voice_batch/src/span_phases.rt', '(previous >> 5) * 32', '(previous >> 4) * 16')]),
+    Mutant('a bit of PMON modulates the voice after its own', ['voice_unit', 'voice_batch'], ['tests_sounds'], [
         (VOICE, 'has_bit pmon voice', 'has_bit pmon (voice - 1)'), ('voice_unit/src/interface.rt', 'has_bit(pmon, voice)', 'has_bit(pmon, voice - 1)')]),
-    Mutant('a key on clears the last samples', ['voice_unit'], ['tests_sounds'], [
+    Mutant('a key on clears the last samples', ['voice_unit', 'voice_batch'], ['tests_sounds'], [
         (VOICE, 'samples = v.samples;', 'samples = if v.delay == 5 then replicate 12 (pos 0) else v.samples;'),
         (VOICE_CODE, 'self.block = start_word(input.dir, regs.srcn, memory);', 'self.block = start_word(input.dir, regs.srcn, memory);\n            self.samples = [0; 12];')]),
 

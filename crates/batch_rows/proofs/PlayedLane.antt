@@ -3,8 +3,8 @@ use Rattle.std.proofs.Common.{◌≡◌, ℕ, zero, suc, ◌+◌, ◌-◌, ◌^�
 use Rattle.num_fix.specs.SignedWords.{number_at}
 use Rattle.rate_clock.specs.Counter.{counter_at}
 use Rattle.voice_unit.specs.Voice.{VoiceState}
-use Rattle.voice_unit.specs.Batch.{lane_input, lane_inputs, steps, answer_of_step}
-use Rattle.voice_unit.specs.Play.{Lane, answer_at, IsPlayed}
+use Rattle.voice_unit.specs.Batch.{Lane, lane_input, lane_inputs, steps, answer_of_step, answer_at}
+use Rattle.voice_batch.specs.Play.{IsPlayed}
 use Rattle.voice_unit.specs.declared.all_voices.BatchRows.{BatchRows}
 use Rattle.voice_unit.specs.declared.interface.VoiceOut.{VoiceOut}
 use Rattle.dsp_state.specs.Registers.{voice_regs}

@@ -15,7 +15,7 @@ use aram_core::Aram;
 use dsp_state::registers::ENDX;
 use dsp_state::{ChipState, Settings, put_all_levels};
 use trace_form::Frames;
-use voice_unit::Workspace;
+use voice_batch::Workspace;
 
 /// Plays a batch by rows: the keys and the noise, each voice over the whole batch, the echo over the rows of sums, and the registers' results. What stands
 /// in the places for what is made is of no account.

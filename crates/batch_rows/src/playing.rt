@@ -15,7 +15,8 @@ use crate::sums::{add_shares, clear_sums};
 use dsp_state::Volumes;
 use echo_unit::SumRows;
 use num_fix::BATCH_SIZE;
-use voice_unit::{PlayedRows, UNHEARD, Voice, VoiceOut, Workspace};
+use voice_batch::{PlayedRows, Workspace, play};
+use voice_unit::{UNHEARD, Voice, VoiceOut};
 
 /// What the voices make of a batch.
 #[derive(Clone, Copy)]
@@ -68,7 +69,7 @@ pub fn play_voice(
     ensures lower { (j : ℕ) → j < max_samples_of_batch → slice_index made.new.ends j < 2 ^ (v + 1) }
 {
     let own = reads.of_voice(v);
-    voice.play(n, &own, previous, work, made)
+    play(voice, n, &own, previous, work, made)
 }
 
 /// Begins with no voice that has ended.

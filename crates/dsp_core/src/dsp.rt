@@ -30,7 +30,8 @@ use rate_clock::{Noise, RateClock};
 use std::alloc::Global;
 use std::marker::Model;
 use trace_form::{Frames, Records};
-use voice_unit::{UNHEARD, Voice, VoiceOut, Workspace};
+use voice_batch::Workspace;
+use voice_unit::{UNHEARD, Voice, VoiceOut};
 
 /// The fewest samples for which rows pay.
 const MIN_ROWS: u8 = 3;

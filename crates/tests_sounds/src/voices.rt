@@ -9,9 +9,9 @@ use rate_clock::RateClock;
 use std::alloc::Global;
 use std::process::Abort;
 use std::test::Fail;
+use voice_batch::{PlayedRows, Workspace, play};
 use voice_unit::{
-    BatchRows, OutRow, PlayedRows, Voice, VoiceIn, VoiceOut, VoiceReads, VoiceRegs, VoiceView,
-    Workspace,
+    BatchRows, OutRow, Voice, VoiceIn, VoiceOut, VoiceReads, VoiceRegs, VoiceView,
 };
 
 /// What a step reads in sample `k`, where a key on waits for the first poll.
@@ -304,7 +304,7 @@ fn ends_of_a_modulated_voice(
     let mut work = Workspace::new(alloc, &table)?;
     let mut made = unplayed();
     let mut voice = Voice::new();
-    let last = voice.play(64, &reads, previous, &mut work, &mut made);
+    let last = play(&mut voice, 64, &reads, previous, &mut work, &mut made);
     let mut beside = Voice::new();
     for j in 0..64u8 {
         let place = usize::from(j);
@@ -400,7 +400,7 @@ fn a_span_sounds_as_its_steps_by_any_table(rt: HostRuntime) -> Result<(), Fail> 
         let mut work = Workspace::new(rt.alloc(), &table)?;
         let mut made = unplayed();
         let mut stretched = Voice::new();
-        stretched.play(64, &reads, &[0; 64], &mut work, &mut made);
+        play(&mut stretched, 64, &reads, &[0; 64], &mut work, &mut made);
         let mut stepped = Voice::new();
         let mut steps = OutRow::silent();
         stepped.run(64, &reads, &OutRow::silent(), &mut steps);

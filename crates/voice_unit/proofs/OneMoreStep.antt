@@ -1,15 +1,18 @@
--- One step more of a voice over a batch, with what it gives.
-use Rattle.std.proofs.Common.{◌≡◌, ◌≢◌, ℕ, ◌+◌, ◌<◌, ◌==◌, Bool, true, false, length, get_or, slice_set, refl, ◌∙◌, arith}
+-- One step more of a voice over a batch, and what it gives.
+use Rattle.std.proofs.Common.{◌≡◌, ◌≢◌, ℕ, ◌+◌, ◌<◌, ◌==◌, Bool, true, false, length, get_or, slice_set, refl, ◌∙◌, add-one, arith}
 use Rattle.std.proofs.lemmas.Bool.Decides.{nat_tests}
 use Rattle.std.proofs.lemmas.List.{get_or-set_same, get_or-set_other}
 use Rattle.rate_clock.specs.Counter.{counter_at}
-use Rattle.voice_unit.specs.Batch.{steps, answer_of_step}
+use Rattle.voice_unit.specs.Batch.{Lane, steps, answer_of_step, voice_at, answer_at}
 use Rattle.voice_unit.specs.Voice.{VoiceState, voice_step, voice_answer}
-use Rattle.voice_unit.specs.Play.{Lane, answer_at}
 use Rattle.voice_unit.specs.RunOfVoice.{silent_answer, IsRun}
 use Rattle.voice_unit.specs.declared.interface.VoiceOut.{VoiceOut}
 use Rattle.voice_unit.specs.declared.out_row.OutRow.{OutRow}
-use Rattle.voice_unit.proofs.Played.{more_steps}
+
+-- the voice after one sample more
+pub more_steps : (lane : Lane) (n : ℕ) → voice_at lane (n + 1) ≡ voice_step (voice_at lane n) lane.regs (lane.inputs n) lane.memory (counter_at (lane.k + n))
+unfolding steps
+more_steps lane n = rw add-one
 
 -- a voice before its first step
 pub none_run : (lane : Lane) (row : OutRow) → IsRun lane 0 row row lane.voice

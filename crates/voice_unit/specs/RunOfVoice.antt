@@ -1,7 +1,7 @@
 -- A voice over a batch, with what each step gives.
 use Rattle.std.specs.Prelude.{◌≡◌, ℕ, ◌<◌, ◌≤◌, List, ℤ, pos, false, map, get_or}
 use Rattle.voice_unit.specs.Voice.{VoiceState}
-use Rattle.voice_unit.specs.Play.{Lane, voice_at, answer_at}
+use Rattle.voice_unit.specs.Batch.{Lane, voice_at, answer_at}
 use Rattle.voice_unit.specs.declared.interface.VoiceOut.{VoiceOut}
 use Rattle.voice_unit.specs.declared.out_row.OutRow.{OutRow}
 

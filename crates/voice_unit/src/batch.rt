@@ -45,18 +45,9 @@ pub struct VoiceReads<'a> {
     pub clock: RateClock,
 }
 
-/// What is made of a batch while its voices play, one after another.
-#[derive(Clone, Copy)]
-pub struct PlayedRows {
-    /// The output of the voice that plays, in each sample.
-    pub outs: [i16; BATCH_SIZE],
-    /// The voices that come to an end in each sample: bit v is voice v.
-    pub ends: [u8; BATCH_SIZE],
-}
-
 impl VoiceView {
     /// Whether the pitch of the voice is modulated by the voice before.
-    pub(crate) fn is_modulated(&self) -> bool
+    pub fn is_modulated(&self) -> bool
         requires { self.now.voice < 8 }
         ensures { result ≡ is_modulated self.now.pmon self.now.voice }
     {

@@ -1,8 +1,9 @@
 //! What a step of a voice reads beside the memory and the table, and what it gives.
 
 ghost use Rattle.std.specs.Prelude.{◌≡◌, ◌<◌};
-ghost use Rattle.voice_unit.specs.Voice.{is_keyed, is_modulated};
+ghost use Rattle.voice_unit.specs.Voice.{is_keyed, is_modulated, is_silencing};
 
+use brr_decode::{has_end, has_loop};
 use num_fix::has_bit;
 
 /// The registers of one voice that its step reads (Anomie's S-DSP Doc, "DSP Voices").
@@ -81,8 +82,15 @@ pub fn is_modulated(pmon: u8, voice: u8) -> bool
     voice > 0 && has_bit(pmon, voice)
 }
 
+/// Whether the soft reset or the header of a block that ends without a loop silences a voice.
+pub fn is_silencing(reset: bool, header: u8) -> bool
+    ensures { result ≡ is_silencing reset header }
+{
+    reset || has_end(header) && !has_loop(header)
+}
+
 /// Whether a voice is keyed in a step.
-pub(crate) fn is_keyed(input: &VoiceIn) -> bool
+pub fn is_keyed(input: &VoiceIn) -> bool
     ensures { result ≡ is_keyed input.now }
 {
     input.poll && input.kon

@@ -1,16 +1,13 @@
 //! Samples at a level, and the pitch of a voice, modulated by samples of the voice before.
 
-ghost use Rattle.std.specs.Prelude.{◌≡◌, ◌<◌, ◌≤◌, ◌*◌, pos, unsigned_abs, ◌+ℤ◌};
+ghost use Rattle.std.specs.Prelude.{◌≡◌, ◌<◌, ◌≤◌, pos, unsigned_abs, ◌+ℤ◌};
 ghost use Rattle.num_fix.specs.Arithmetic.{scaled, floor_shift, high_byte};
-ghost use Rattle.voice_unit.specs.Voice.{modulated_pitch, pitch_of};
+ghost use Rattle.voice_unit.specs.Voice.{pitch_of};
 
 use crate::interface::{VoiceIn, VoiceRegs};
 use num_fix::scaled;
 
-/// How many levels there are, 0 to 7FFh: at this one a sample would be whole.
-pub(crate) const LEVELS: u16 = 0x800;
-
-/// A sample at a level.
+/// A sample at a level, at most 7FFh: that many 2048ths of it.
 pub fn at_level(sample: i16, level: u16) -> i16
     requires { level ≤ 0x7ff }
     ensures { result ≡ scaled sample (pos level) 11 }
@@ -28,16 +25,6 @@ pub fn modulated_pitch(pitch: u16, previous: i16) -> u16
 {
     let bend = scaled(previous >> 5, pitch as i16, 10);
     (i32::from(pitch) + bend) as u16
-}
-
-/// A pitch modulated so, by its double: one multiplication of 16-bit numbers.
-pub(crate) fn modulated_by_double(pitch: u16, double: i16, previous: i16) -> u16
-    requires pitch { pitch < 0x4000 }
-    requires double { double ≡ pos (2 * pitch) }
-    ensures { result ≡ modulated_pitch pitch previous }
-{
-    let bend = scaled((previous >> 5) * 32, double, 16) as i16;
-    (pitch as i16 + bend) as u16
 }
 
 /// The pitch of a voice.

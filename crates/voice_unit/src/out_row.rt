@@ -3,7 +3,7 @@
 ghost use Rattle.std.specs.Prelude.{◌≡◌, ◌<◌, ◌≤◌, ℕ, replicate, slice_index};
 ghost use Rattle.num_fix.specs.SignedWords.{number_at};
 ghost use Rattle.rate_clock.specs.Counter.{counter_at};
-ghost use Rattle.voice_unit.specs.Play.{lane_of};
+ghost use Rattle.voice_unit.specs.Batch.{lane_of};
 ghost use Rattle.voice_unit.specs.RunOfVoice.{silent_answer, outs_of, IsRun};
 
 use crate::batch::VoiceReads;

@@ -1,23 +1,17 @@
 //! The voice and its step.
 
-ghost use Rattle.std.specs.Prelude.{◌≡◌, ◌+◌, ◌*◌, ◌/◌, ◌%◌, ◌<◌, ◌≤◌, ◌++◌, pos, true, drop, take, length, slice_range};
-ghost use Rattle.num_fix.specs.SignedWords.{number_at};
-ghost use Rattle.aram_core.specs.Memory.{byte_at};
-ghost use Rattle.brr_decode.specs.Kept.{with_group};
+ghost use Rattle.std.specs.Prelude.{◌≡◌, ◌+◌, ◌*◌, ◌/◌, ◌%◌, ◌<◌, ◌≤◌, ◌++◌, drop, length};
 ghost use Rattle.voice_unit.specs.Directory.{start_word, loop_word};
-ghost use Rattle.voice_unit.specs.Row.{IsGroup, place_of};
 ghost use Rattle.voice_unit.specs.Voice.{silent_voice, step_pitch, step_header, after_delay, interpolation, source_sample, output, needs_group, after_envelope, is_ended, after_decoding, at_next_group, after_reading, after_pitch, voice_step, voice_answer};
 
 use crate::directory::{loop_word, start_word};
-use crate::free_envelope::is_silencing;
-use crate::interface::{VoiceIn, VoiceOut, VoiceRegs, is_keyed};
+use crate::interface::{VoiceIn, VoiceOut, VoiceRegs, is_keyed, is_silencing};
 use crate::level::{at_level, high_byte, pitch_of};
-use crate::row::{Place, ROW_SIZE};
 use aram_core::Aram;
 use brr_decode::{decode_group, has_end};
 use envelope::Envelope;
 use gauss_table::GaussTable;
-use num_fix::{BATCH_SIZE, clear_bit0, wrap16};
+use num_fix::{clear_bit0, wrap16};
 use rate_clock::RateClock;
 use std::marker::Model;
 
@@ -91,61 +85,53 @@ impl Voice {
         self.delay
     }
 
-    /// The position that the voice plays among its samples.
-    pub(crate) fn position(&self) -> u16
+    /// Its last twelve kept samples, oldest first.
+    pub fn samples(&self) -> [i16; 12]
+        ensures { result ≡ self.now.samples }
+    {
+        self.samples
+    }
+
+    /// The position that the voice plays among its samples, in 4096ths of one: at most 7FFFh.
+    pub fn position(&self) -> u16
         ensures value { result ≡ self.now.position }
         ensures within { result < 0x8000 }
     {
         self.position
     }
 
-    /// The group that the voice reads next.
-    pub(crate) fn place(&self) -> Place
-        ensures value { result ≡ place_of self.now }
-        ensures group { IsGroup result }
+    /// The offset in its block of the group that the voice reads next: 1, 3, 5 or 7.
+    pub fn offset(&self) -> u8
+        ensures value { result ≡ self.now.offset }
+        ensures within { result < 8 }
+        ensures odd { result % 2 ≡ 1 }
     {
-        Place {
-            block: self.block,
-            offset: self.offset,
-        }
-    }
-
-    /// Begins a row with the twelve samples of the voice.
-    pub(crate) fn begin_row(&self, row: &mut [i16; ROW_SIZE])
-        ensures row { take 12 row.new ≡ self.now.samples }
-        ensures twelve { length self.now.samples ≡ 12 }
-    {
-        row[..12].copy_from_slice(&self.samples);
-    }
-
-    /// Goes on to a position among the last twelve of a row of so many groups, with another group before it.
-    pub(crate) fn go_to(&mut self, row: &[i16; ROW_SIZE], groups: u8, position: u16, next: Place)
-        requires few { groups ≤ BATCH_SIZE }
-        requires position { position < 0x8000 }
-        requires group { IsGroup next }
-        ensures { self.new ≡ record self.old {
-          samples = slice_range row.now (4 * groups) (4 * groups + 12);
-          position = position;
-          block = next.block;
-          offset = next.offset;
-        } }
-    {
-        let from = 4 * usize::from(groups);
-        self.samples.copy_from_slice(&row[from..from + 12]);
-        self.position = position;
-        self.block = next.block;
-        self.offset = next.offset;
+        self.offset
     }
 
     /// The envelope.
-    pub(crate) fn envelope(&self) -> Envelope
+    pub fn envelope(&self) -> Envelope
         ensures { result ≡ self.now.envelope }
     {
         self.envelope
     }
 
+    /// Goes on to a position among twelve kept samples, with the group at an offset of a block as the one to read next.
+    pub fn go_to(&mut self, samples: &[i16], position: u16, block: u16, offset: u8)
+        requires twelve { length samples.now ≡ 12 }
+        requires position { position < 0x8000 }
+        requires within { offset < 8 }
+        requires odd { offset % 2 ≡ 1 }
+        ensures { self.new ≡ record self.old { samples = samples.now; position = position; block = block; offset = offset } }
+    {
+        self.samples.copy_from_slice(samples);
+        self.position = position;
+        self.block = block;
+        self.offset = offset;
+    }
+
     /// Takes an envelope in place of its own.
-    pub(crate) fn take_envelope(&mut self, envelope: Envelope)
+    pub fn take_envelope(&mut self, envelope: Envelope)
         ensures { self.new ≡ record self.old { envelope = envelope } }
     {
         self.envelope = envelope;

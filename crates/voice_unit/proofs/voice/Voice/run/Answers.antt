@@ -3,8 +3,7 @@ use Rattle.std.specs.Int.{w16}
 use Rattle.std.proofs.lemmas.List.{length-set}
 use Rattle.num_fix.specs.SignedWords.{number_at}
 use Rattle.rate_clock.specs.Counter.{counter_at}
-use Rattle.voice_unit.specs.Batch.{lane_input}
-use Rattle.voice_unit.specs.Play.{lane_of}
+use Rattle.voice_unit.specs.Batch.{lane_input, lane_of}
 use Rattle.voice_unit.specs.RunOfVoice.{outs_of}
 use Rattle.voice_unit.proofs.OneMoreStep.{none_run, one_more_run}
 use Rattle.voice_unit.proofs.voice.Voice.run.Goals as goal

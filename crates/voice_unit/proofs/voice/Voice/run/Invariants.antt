@@ -1,6 +1,6 @@
 use Rattle.std.proofs.Common.{◌≡◌, ◌+◌, ℕ, length}
 use Rattle.rate_clock.specs.Counter.{counter_at}
-use Rattle.voice_unit.specs.Play.{lane_of}
+use Rattle.voice_unit.specs.Batch.{lane_of}
 use Rattle.voice_unit.specs.RunOfVoice.{outs_of, IsRun}
 use Rattle.voice_unit.proofs.voice.Voice.run.Given as goal
 

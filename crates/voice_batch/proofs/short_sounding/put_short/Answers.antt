@@ -1,0 +1,25 @@
+use Rattle.std.proofs.Common.{◌≡◌, ◌+◌, ◌-◌, ◌*◌, ◌<◌, inl, inr, min, ℕ, ◌∙◌, arith}
+use Rattle.std.proofs.lemmas.Bool.{cases_lt}
+use Rattle.voice_batch.proofs.short_sounding.put_short.Goals as goal
+
+pub loop-c-preserved : goal.loop-c-preserved
+loop-c-preserved c =
+    let from : ℕ = c.min-from.result in
+    let at : ℕ = c.args.at in
+    let begin : c.from-begin.result ≡ at = c.from-begin.ensures in
+    let last : c.from-last.result ≡ 56 - at = c.from-last.ensures in
+    let chosen : from ≡ min (8 * c.loop-c.c) (56 - at) = omega (arith, c.min-from.ensures) in
+    record {
+      outs = λ level most are heard i below within. elim (cases_lt i from) [
+        | inl passed ↦ (
+            let early : i < 8 * c.loop-c.c = omega arith in
+            let lower : at + i < c.from-begin.result + from = omega arith in
+            c.put_eight.ensures.before (at + i) lower ∙ c.loop-c.invariant.outs level most are heard i early within)
+        | inr new ↦ (
+            let near : i - from < 8 = omega arith in
+            let same : from + (i - from) ≡ i = omega arith in
+            let there : c.from-begin.result + from + (i - from) ≡ at + i = omega arith in
+            rw (same, there) at (c.put_eight.ensures.outs (i - from) near ∙ c.eight_at_level-eight.ensures level most are heard (i - from) near))
+      ];
+      before = λ i before. c.put_eight.ensures.before i (omega arith) ∙ c.loop-c.invariant.before i before;
+    }

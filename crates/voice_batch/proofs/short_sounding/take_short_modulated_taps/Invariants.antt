@@ -1,0 +1,10 @@
+use Rattle.std.proofs.Common.{◌≡◌, ◌<◌, ◌*◌, ℕ, List, ℤ, slice_index}
+use Rattle.gauss_table.specs.Factors.{AreFactors}
+use Rattle.voice_batch.specs.OutsOverRow.{short_mixed_at}
+use Rattle.voice_unit.specs.Voice.{interpolation}
+use Rattle.voice_batch.proofs.short_sounding.take_short_modulated_taps.Given as goal
+
+abbrev pub invariant-loop-c : goal.invariant-loop-c
+invariant-loop-c l = record {
+  taps : (table : List ℤ) → AreFactors table l.factors → (i : ℕ) → i < 2 * l.c → short_mixed_at l.taps i ≡ interpolation table l.row (slice_index l.phases i);
+}

@@ -1,0 +1,11 @@
+use Rattle.std.proofs.Common.{◌≡◌, ◌<◌, ◌+◌, ℕ, length}
+use Rattle.num_fix.specs.SignedWords.{number_at}
+use Rattle.voice_batch.specs.OutsOverRow.{mixed_at, sounding_at}
+use Rattle.voice_batch.proofs.sounding.put_at_level.Given as goal
+
+abbrev pub invariant-loop-j : goal.invariant-loop-j
+invariant-loop-j l = record {
+  outs : (i : ℕ) → i < l.j → number_at l.outs (l.at + i) ≡ sounding_at l.level (mixed_at l.taps i);
+  before : (i : ℕ) → i < l.at → number_at l.outs i ≡ number_at l.initial.outs i;
+  long : length l.outs ≡ 64;
+}

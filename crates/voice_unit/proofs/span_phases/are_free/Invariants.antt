@@ -1,5 +1,0 @@
-use Rattle.std.proofs.Common.{◌<◌, ◌≤◌, ℕ, slice_index}
-use Rattle.voice_unit.proofs.span_phases.are_free.Given as goal
-
-abbrev pub invariant-loop-j : goal.invariant-loop-j
-invariant-loop-j l = (i : ℕ) → i < l.j → slice_index l.pitches i ≤ l.greatest
