@@ -34,5 +34,3 @@ pub mod EchoOver
 pub mod MakeBatch
 -- NoRecords: no record of a voice is in the mask 0.
 pub mod NoRecords
--- RunLane: voices over a batch, with what they give in each of its samples.
-pub mod RunLane

@@ -13,7 +13,6 @@
 -- Sent: voices that are sent to the echo at their own volumes.
 -- PlayedBatch: what the voices leave of a batch.
 -- AddsFrames: what is there once samples are made whose records aren't wanted.
--- Recorded: a batch whose voices give their answers of every sample.
 -- Laws: the laws of batches by rows.
 pub mod Lane
 pub mod Rows
@@ -30,5 +29,4 @@ pub mod SumRows
 pub mod Sent
 pub mod PlayedBatch
 pub mod AddsFrames
-pub mod Recorded
 pub mod Laws

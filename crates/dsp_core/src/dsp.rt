@@ -20,7 +20,7 @@ use crate::saved::DspState;
 use aram_core::Aram;
 use batch_rows::{
     BatchSamples, PlayedBatch, is_echo_apart, is_echo_surely_apart, play_batch,
-    play_recorded_batch, push_records, samples_apart,
+    push_records, samples_apart,
 };
 use dsp_state::registers::{ENDX, KON};
 use dsp_state::{ChipState, Hidden, Settings, settings_of};
@@ -226,40 +226,6 @@ impl Dsp {
         self.number += u32::from(n);
     }
 
-    /// Makes the next n samples by rows, and adds their frames and the records of the voices in the mask.
-    fn make_recorded_rows(
-        &mut self,
-        n: u8,
-        settings: &Settings,
-        memory: &mut Aram,
-        mask: u8,
-        frames: &mut Frames,
-        records: &mut Records,
-    )
-        requires settings { settings.now ≡ settings_of self.old.state.registers self.old.state.muted }
-        requires some { 0 < n }
-        requires few { n ≤ max_samples_of_batch }
-        requires frame_capacity { length frames.old + n ≤ frame_capacity }
-        requires record_capacity { length records.old + 8 * n ≤ record_capacity }
-        requires number { self.old.sample + n ≤ max_samples_of_chip }
-        requires apart { VoicesReadTheSame n self.old.sample self.old.state memory.old }
-        ensures made { AddsSamples mask (next_samples n self.old memory.old) self.new.state memory.new frames.old frames.new records.old records.new }
-        ensures chip { self.new ≡ record self.old { state = self.new.state; sample = self.old.sample + n } }
-    {
-        let samples = BatchSamples::after(&self.clock, self.number, n);
-        play_recorded_batch(
-            &mut self.state,
-            &samples,
-            settings,
-            memory,
-            mask,
-            frames,
-            records,
-        );
-        self.clock = self.clock.after_samples(n);
-        self.number += u32::from(n);
-    }
-
     /// How many of the next n samples may be made by rows: where a conservative test shows that the echo can't write what the voices read all
     /// of them, and else those that write nothing which a voice reads in them. None where it doesn't pay, as for one or two samples. Fewer
     /// may be reported: no clause says how many, and one by one the samples are the same.
@@ -282,7 +248,8 @@ impl Dsp {
         apart
     }
 
-    /// Makes some of the next n samples, by rows or a few one by one, and adds their frames and the records of the voices in the mask.
+    /// Makes some of the next n samples, by rows where no records are wanted, or a few one by one, and adds their frames and the records
+    /// of the voices in the mask.
     /// The answer is how many.
     fn make_some(
         &mut self,
@@ -305,18 +272,16 @@ impl Dsp {
             AddsSamples mask made self.new.state memory.new frames.old frames.new records.old records.new }
         ensures chip { self.new ≡ record self.old { state = self.new.state; sample = self.old.sample + result } }
     {
-        let rows = self.samples_by_rows(n, memory);
-        if rows == 0 {
-            let few = n.min(ONE_BY_ONE);
-            self.make_each(few, settings, memory, mask, frames, records);
-            return few;
-        }
         if mask == 0 {
-            self.make_rows(rows, settings, memory, frames);
-            return rows;
+            let rows = self.samples_by_rows(n, memory);
+            if rows > 0 {
+                self.make_rows(rows, settings, memory, frames);
+                return rows;
+            }
         }
-        self.make_recorded_rows(rows, settings, memory, mask, frames, records);
-        rows
+        let few = n.min(ONE_BY_ONE);
+        self.make_each(few, settings, memory, mask, frames, records);
+        few
     }
 
     /// Makes the next n samples, at most 64, and adds their frames and the records of the voices in the
