@@ -80,9 +80,9 @@ numbers_to_the_end first count q page straight = elim (cases_lt q first) [
     ]
 
 -- and where they go on at page 0
-numbers_round_the_end : (first count q : ℕ) → first < 256 → count ≤ 256 → 256 < first + count
+numbers_past_the_end : (first count q : ℕ) → first < 256 → count ≤ 256 → 256 < first + count
     → ((nat_lt q 256 && not (nat_lt q first)) || nat_lt q (first + count - 256)) ≡ (nat_lt q 256 && nat_lt ((q + 256 - first) % 256) count)
-numbers_round_the_end first count q page few round = elim (cases_lt q 256) [
+numbers_past_the_end first count q page few round = elim (cases_lt q 256) [
   | inr far ↦
       let b : nat_lt q 256 ≡ false = grind (arith, nat_tests, far) in
       let c : nat_lt q (first + count - 256) ≡ false = let h : first + count - 256 ≤ q = omega (arith, far, page, few) in grind (arith, nat_tests, h) in
@@ -113,12 +113,12 @@ up_to_the_end first count page few straight upper lower up low = same_pages _ _ 
     ∙ sym (contains-pages_from first count q page few))
 
 -- all pages that are not below the first one, and those from page 0 on
-pub round_the_end : (first count : ℕ) → first < 256 → count ≤ 256 → 256 < first + count → (all lower again : Pages)
+pub past_the_end : (first count : ℕ) → first < 256 → count ≤ 256 → 256 < first + count → (all lower again : Pages)
     → ((q : ℕ) → set.contains all q ≡ nat_lt q 256) → ((q : ℕ) → set.contains lower q ≡ nat_lt q first) → ((q : ℕ) → set.contains again q ≡ nat_lt q (first + count - 256))
     → set.union (set.difference all lower) again ≡ pages_from first count
-round_the_end first count page few round all lower again every low more = same_pages _ _ (λ q.
+past_the_end first count page few round all lower again every low more = same_pages _ _ (λ q.
     set.contains-union nat_cmp_total (set.difference all lower) again q
     ∙ ap (λ b. b || set.contains again q) (set.contains-difference nat_cmp_total all lower q)
     ∙ (λ i. (every q i && not (low q i)) || more q i)
-    ∙ numbers_round_the_end first count q page few round
+    ∙ numbers_past_the_end first count q page few round
     ∙ sym (contains-pages_from first count q page few))

@@ -17,7 +17,7 @@ use Rattle.chip_form.specs.ChipLaws.{IsLawfulChip}
 use Rattle.lag_bus.specs.Each.{Each, IsVoiceWithin}
 use Rattle.lag_bus.specs.Merge.{merge}
 use Rattle.lock_step.specs.SampleNumbers.{sample_number}
-use Rattle.lag_bus.specs.Ready.{is_before_sample, ready_frames, waiting_frames, ready_records, waiting_records, NoneIsReady}
+use Rattle.lag_bus.specs.Ready.{is_before_sample, ready_frames, pending_frames, ready_records, pending_records, NoneIsReady}
 use Rattle.lag_bus.specs.Book.{may_be_read, may_be_written}
 use Rattle.lag_bus.specs.Deferred.{deferred_with_sample}
 use Rattle.lag_bus.specs.Held.{Held, IsHeld, IsKnown, pending_samples, deferred_of}
@@ -295,7 +295,7 @@ module _ {S : Type 0} {chip : ChipMeaning S} (laws : IsLawfulChip chip) where
         let count : length (h.frames ++ (pending_samples chip h).frames) - h.pending ≡ length h.frames = omega (arith, frames_count) in
         rw count (take-append_seam h.frames (pending_samples chip h).frames)
 
-    kept_frames : waiting_frames h.pending (deferred_of chip h).frames ≡ (pending_samples chip h).frames
+    kept_frames : pending_frames h.pending (deferred_of chip h).frames ≡ (pending_samples chip h).frames
     kept_frames =
         let count : length (h.frames ++ (pending_samples chip h).frames) - h.pending ≡ length h.frames = omega (arith, frames_count) in
         rw count (drop-append_seam h.frames (pending_samples chip h).frames)
@@ -320,8 +320,8 @@ module _ {S : Type 0} {chip : ChipMeaning S} (laws : IsLawfulChip chip) where
 
     pub late_drained : deferred_of chip (record h { frames = []; records = [] }) ≡
         record (deferred_of chip h) {
-          frames = waiting_frames h.pending (deferred_of chip h).frames;
-          records = waiting_records (h.number + h.pending - h.pending) (deferred_of chip h).records;
+          frames = pending_frames h.pending (deferred_of chip h).frames;
+          records = pending_records (h.number + h.pending - h.pending) (deferred_of chip h).records;
           frames_used = h.pending;
           records_used = length h.ring + 8 * h.pending;
         }

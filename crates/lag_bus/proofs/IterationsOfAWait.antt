@@ -1,4 +1,4 @@
--- Over cycles in which nothing comes that is read, the machine with its lag book is a bus that waits.
+-- Over cycles in which nothing comes that is read, the machine with its flush statistics is a bus that waits.
 use Rattle.std.proofs.Common.{◌≡◌, ℕ, ◌+◌, ◌-◌, ◌*◌, ◌/◌, ◌<◌, ◌≤◌, ◌++◌, Bool, true, false, not, ◌&&◌, ◌==◌, refl, sym, ap, ◌∙◌, arith, Some, None}
 use Rattle.std.proofs.lemmas.Bool.{and_parts, not-true}
 use Rattle.std.specs.Prelude.{if◌then◌else◌, unwrap_or}

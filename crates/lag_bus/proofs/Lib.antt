@@ -1,4 +1,4 @@
--- SameMachine: the machine beside the lag book is the one in lock step
+-- SameMachine: the machine beside its flush statistics is the one in lock step
 pub mod SameMachine
 -- MergedRecords: what a merge of records of voices and events has, and how it grows
 pub mod MergedRecords
@@ -18,7 +18,7 @@ pub mod PageMarks
 pub mod FallenDue
 -- CapacityOfFallen: the capacity that samples take which fall due
 pub mod CapacityOfFallen
--- PassesOfAWait: the machine with its lag book passes cycles in which it is only read
+-- PassesOfAWait: the machine with its flush statistics passes cycles in which it is only read
 pub mod PassesOfAWait
 -- IterationsOfAWait: and it makes iterations of steps that only read
 pub mod IterationsOfAWait

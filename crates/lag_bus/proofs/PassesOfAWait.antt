@@ -1,4 +1,4 @@
--- The machine with its lag book passes cycles in which it is only read.
+-- The machine with its flush statistics passes cycles in which it is only read.
 use Rattle.std.proofs.Common.{◌≡◌, ℕ, ◌+◌, ◌-◌, ◌/◌, ◌<◌, ◌≤◌, Bool, true, false, refl, sym, ap, ◌∙◌, arith}
 use Rattle.ports_timers.specs.Io.{after_ticks_of}
 use Rattle.chip_form.specs.ChipMeaning.{ChipMeaning}

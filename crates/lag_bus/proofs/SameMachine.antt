@@ -1,4 +1,4 @@
--- The machine beside the lag book is the machine in lock step, after every list of calls.
+-- The machine beside its flush statistics is the machine in lock step, after every list of calls.
 use Rattle.std.proofs.Common.{◌≡◌, ◌-◌, ◌≤◌, ℕ, List, [], ◌∷◌, length, drop, refl, ap, sym, ◌∙◌, arith}
 use Rattle.std.proofs.lemmas.List.{length-take-le}
 use Rattle.std.proofs.Math.Seq.{drop-append_seam}
@@ -8,7 +8,7 @@ use Rattle.chip_form.specs.ChipMeaning.{ChipMeaning}
 use Rattle.chip_form.specs.ChipSaving.{ChipSaving}
 use Rattle.lag_bus.specs.Lagging.{Lagging, with_book}
 use Rattle.lag_bus.specs.LagEmits.{after_drain}
-use Rattle.lag_bus.specs.Ready.{ready_frames, waiting_frames}
+use Rattle.lag_bus.specs.Ready.{ready_frames, pending_frames}
 use Rattle.lag_bus.specs.Calls.{Call, Read, Write, Pass, Settle, Drain, Load, after_call, lock_step_calls, lagging_calls, HasMachineInLockStep, AnswersInLockStep, DrainsFromFront}
 
 after_call-machine : {S V : Type 0} (chip : ChipMeaning S) (saving : ChipSaving S V) (call : Call V) (bus : Lagging S)
@@ -30,7 +30,7 @@ pub read_after_calls : {S V : Type 0} (chip : ChipMeaning S) (saving : ChipSavin
 read_after_calls chip saving calls at bus = rw (← after_calls-machine chip saving calls bus) refl
 
 -- what a drain leaves is what stands after the items that it handed over
-waiting_after_ready : (pending : ℕ) (frames : List Frame) → waiting_frames pending frames ≡ drop (length (ready_frames pending frames)) frames
+waiting_after_ready : (pending : ℕ) (frames : List Frame) → pending_frames pending frames ≡ drop (length (ready_frames pending frames)) frames
 waiting_after_ready pending frames =
     let few : length frames - pending ≤ length frames = omega arith in
     ap (λ (n : ℕ). drop n frames) (sym (length-take-le (length frames - pending) frames few))

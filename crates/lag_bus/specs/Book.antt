@@ -1,4 +1,4 @@
--- The lag book: what of the machine in lock step is still to be done by the chip, when the chip does it, and how often (own).
+-- Flush statistics: what of the machine in lock step is still to be done by the chip, when the chip does it, and how often (own).
 use Rattle.std.specs.Prelude.{◌≡◌, ℕ, ◌+◌, ◌-◌, ◌%◌, ◌^◌, ◌<◌, Bool, ◌&&◌, ◌||◌, nat_lt, ◌==◌, if◌then◌else◌, Option, Some, None}
 use Rattle.std.specs.FinSet as set
 use Rattle.aram_core.specs.Pages.{page_of}

@@ -1,4 +1,4 @@
--- The machine with its lag book after cycles in which it is only read.
+-- The machine with its flush statistics after cycles in which it is only read.
 use Rattle.std.specs.Prelude.{◌≡◌, ◌≤◌, ◌<◌, ℕ, ◌+◌, ◌-◌, ◌*◌, ◌/◌, ◌++◌, Bool, true, not, ◌&&◌, ◌==◌, if◌then◌else◌, Option, Some, None}
 use Rattle.std.specs.List.{filter}
 use Rattle.chip_form.specs.declared.pages.ReachPages.{ReachPages}

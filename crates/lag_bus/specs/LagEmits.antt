@@ -3,7 +3,7 @@ use Rattle.lock_step.specs.LockStepEmits.{drained_machine}
 use Rattle.lock_step.specs.Emits.{Emits}
 use Rattle.chip_form.specs.ChipMeaning.{ChipMeaning}
 use Rattle.lag_bus.specs.Lagging.{Lagging, with_book, after_settle}
-use Rattle.lag_bus.specs.Ready.{waiting_frames, waiting_records}
+use Rattle.lag_bus.specs.Ready.{pending_frames, pending_records}
 
 -- the bus without what it emitted and with no calls; its book stays
 abbrev pub without_items : {S : Type 0} → Lagging S → Lagging S
@@ -24,8 +24,8 @@ lag_emits chip = record {
 abbrev pub after_drain : {S : Type 0} → Lagging S → Lagging S
 after_drain bus = with_book
     (record bus.machine {
-      frames = waiting_frames bus.book.pending bus.machine.frames;
-      records = waiting_records bus.chip_sample bus.machine.records;
+      frames = pending_frames bus.book.pending bus.machine.frames;
+      records = pending_records bus.chip_sample bus.machine.records;
       calls = 0;
     })
     bus.book

@@ -1,4 +1,4 @@
--- The machine with the lag book beside it is a lawful bus, and emits as a bus is to emit.
+-- The machine with its flush statistics beside it is a lawful bus, and emits as a bus is to emit.
 use Rattle.std.proofs.Common.{◌≡◌, ◌≤◌, ◌+◌, ◌/◌, ◌==◌, ℕ, Bool, true, false, refl, arith}
 use Rattle.std.specs.Prelude.{Option, Some, None, if◌then◌else◌}
 use Rattle.std.proofs.lemmas.Bool.Decides.{nat_tests}

@@ -1,4 +1,4 @@
--- The machine in lock step with the lag book beside it. The book reads the machine and never changes it.
+-- The machine in lock step with its flush statistics beside it. They read the machine and never change it.
 use Rattle.std.specs.Prelude.{◌≡◌, ◌<◌, ◌≤◌, ℕ, ◌-◌, ◌^◌, ◌==◌, if◌then◌else◌}
 use Rattle.spc700_exec.specs.Bus.{BusMeaning}
 use Rattle.lag_bus.specs.declared.cause.Cause.TheVariants.{End}

@@ -1,5 +1,5 @@
 -- What a reader of the promises needs:
--- the lag book: what is pending, what settles it, and the counts
+-- flush statistics: what is pending, what settles it, and the counts
 pub mod Book
 -- the machine in lock step with the book beside it
 pub mod Lagging
@@ -12,7 +12,7 @@ pub mod Saved
 -- lists of calls of a bus
 pub mod Calls
 -- That it keeps its laws; no promise speaks of these words:
--- the machine with the lag book beside it keeps those of a bus, and of one that emits
+-- the machine with its flush statistics beside it keeps those of a bus, and of one that emits
 pub mod LagLaws
 -- And words of the proof that a chip whose samples are deferred comes to the same:
 -- such a chip as it is once these samples are made

@@ -16,15 +16,15 @@ is_before_sample k (Voice sample voice level out block keyed ended) = nat_lt sam
 abbrev pub ready_frames : (pending : ℕ) → List Frame → List Frame
 ready_frames pending frames = take (length frames - pending) frames
 
-abbrev pub waiting_frames : (pending : ℕ) → List Frame → List Frame
-waiting_frames pending frames = drop (length frames - pending) frames
+abbrev pub pending_frames : (pending : ℕ) → List Frame → List Frame
+pending_frames pending frames = drop (length frames - pending) frames
 
 -- the records before the first item of the first pending sample, which is number `first`, and those after it
 abbrev pub ready_records : (first : ℕ) → List Record → List Record
 ready_records first records = filter (is_before_sample first) records
 
-abbrev pub waiting_records : (first : ℕ) → List Record → List Record
-waiting_records first records = filter (λ item. not (is_before_sample first item)) records
+abbrev pub pending_records : (first : ℕ) → List Record → List Record
+pending_records first records = filter (λ item. not (is_before_sample first item)) records
 
 -- all that stands before the first pending sample was handed over
 pub record NoneIsReady (pending first : ℕ) (frames : List Frame) (records : List Record) : Type 0 where

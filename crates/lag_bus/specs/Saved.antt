@@ -31,7 +31,7 @@ loaded_machine saving m saved memory = record m {
   calls = 0;
 }
 
--- and with it the lag book, of which the counts stay
+-- and with it the flush statistics, whose counts stay
 abbrev pub loaded_lagging : {S V : Type 0} → ChipMeaning S → ChipSaving S V → Lagging S → BusState V → (memory : List ℕ) → Lagging S
 loaded_lagging chip saving bus saved memory =
     let machine = loaded_machine saving bus.machine saved memory in

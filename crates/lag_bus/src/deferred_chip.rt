@@ -8,7 +8,7 @@ ghost use Rattle.lag_bus.specs.Deferred.{deferred_with_sample, deferred_with_sam
 ghost use Rattle.trace_form.specs.Capacities.{frame_capacity, record_capacity, event_capacity};
 ghost use Rattle.chip_form.specs.Limits.{max_samples_of_batch, max_samples_of_chip};
 ghost use Rattle.lock_step.specs.SampleNumbers.{sample_number};
-ghost use Rattle.lag_bus.specs.Ready.{is_before_sample, ready_frames, waiting_frames, ready_records, waiting_records, NoneIsReady};
+ghost use Rattle.lag_bus.specs.Ready.{is_before_sample, ready_frames, pending_frames, ready_records, pending_records, NoneIsReady};
 
 use crate::cause::Cause;
 use crate::merging::merge_into;
@@ -380,8 +380,8 @@ impl<C: Chip> DeferredChip<C> {
         ensures frames { frames.new ≡ ready_frames self.old.pending self.old.frames }
         ensures records { records.new ≡ ready_records (self.old.due - self.old.pending) self.old.records }
         ensures rest { self.new ≡ record self.old {
-          frames = waiting_frames self.old.pending self.old.frames;
-          records = waiting_records (self.old.due - self.old.pending) self.old.records;
+          frames = pending_frames self.old.pending self.old.frames;
+          records = pending_records (self.old.due - self.old.pending) self.old.records;
           frames_used = self.old.pending;
           records_used = self.old.events + 8 * self.old.pending;
         } }

@@ -17,7 +17,7 @@ pub fn a_total_has_the_samples_made<C: Chip>(_chip: &C)
     ensures { TotalsSamplesMade C.meaning C.saving }
 {}
 
-/// Iterations of steps that only read bring the machine with its lag book to where their cycles alone bring it.
+/// Iterations of steps that only read bring the machine with its flush statistics to where their cycles alone bring it.
 pub fn iterations_leave_their_cycles<C: Chip>(_chip: &C)
     ensures { LeavesCyclesOfIterations C.meaning }
 {}

@@ -1,4 +1,4 @@
--- A run of the machine with the lag book beside it is the run of the machine in lock step.
+-- A run of the machine with its flush statistics beside it is the run of the machine in lock step.
 use Rattle.std.proofs.Common.{◌≡◌, ℕ, refl, ap}
 use Rattle.spc700_exec.specs.declared.cpu.Cpu.{Cpu}
 use Rattle.chip_form.specs.ChipMeaning.{ChipMeaning}

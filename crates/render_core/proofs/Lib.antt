@@ -12,9 +12,9 @@ pub mod FramesFromOpening
 pub mod EmptyLists
 -- RunsOfSeenBus: a bus with something beside it makes the same runs.
 pub mod RunsOfSeenBus
--- LaggingRun: the machine with the lag book beside it makes the same runs.
+-- LaggingRun: the machine with its flush statistics beside it makes the same runs.
 pub mod LaggingRun
--- NextPiece: the next piece of a render, from a run of the machine with the lag book.
+-- NextPiece: the next piece of a render, from a run of the machine with the flush statistics.
 pub mod NextPiece
 -- RunAfterWait: a run goes on after iterations that were made at once.
 pub mod RunAfterWait

@@ -1,4 +1,4 @@
--- The next piece of a render, from what a run of the machine with the lag book gives.
+-- The next piece of a render, from what a run of the machine with the flush statistics gives.
 use Rattle.std.proofs.Common.{◌≡◌, ℕ, ◌+◌, ◌*◌, ◌/◌, ◌^◌, ◌<◌, ◌≤◌, nat_le, Bool, true, false, List, [], ◌++◌, length, refl, ap, sym, ◌∙◌, arith}
 use Rattle.num_fix.specs.declared.Frame.{Frame}
 use Rattle.trace_form.specs.declared.record.Record.{Record}

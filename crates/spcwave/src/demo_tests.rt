@@ -39,7 +39,7 @@ fn render_seven(alloc: Global, words: &[&str], room: usize) -> Result<Outcome, F
     render_straight(alloc, made.first(), words, room)
 }
 
-/// Looks at a render of three minutes.
+/// Checks a render of three minutes.
 fn look_at_whole(rt: &impl Abort, played: &Outcome) {
     assert!(rt; played.status() == Status::Ok && played.complaint().is_empty());
     assert!(rt; played.report().starts_with(b"samples 5760000\n"));
@@ -74,7 +74,7 @@ fn has_sums(checked: &[u8], lines: &[u8], played: &[u8]) -> bool {
     }
 }
 
-/// Looks at a render of ten seconds, and at a check, which shows these sums.
+/// Checks a render of ten seconds, and at a check, which shows these sums.
 fn look_at_check(rt: &impl Abort, played: &Outcome, checked: &Outcome, lines: &[u8]) {
     assert!(rt; played.status() == Status::Ok && played.first().len() == 1280044);
     assert!(rt; checked.status() == Status::Ok);

@@ -209,7 +209,7 @@ fn is_alike(held: &Held, inside: &Outcome) -> bool {
         && held.complaint.as_slice() == inside.complaint()
 }
 
-/// Looks at how the runs ended, at what real files hold, and at the outputs in memory.
+/// Checks how the runs ended, at what real files hold, and at the outputs in memory.
 fn look_at(rt: &impl Abort, made: Status, ended: Status, held: &Held, inside: &Outcome) {
     assert!(rt; made == Status::Ok && ended == Status::Ok && inside.status() == Status::Ok);
     assert!(rt; held.wave.len() == HEADER_SIZE + 4 * 1000 && held.trace.len() >= TRACE_LEAST);

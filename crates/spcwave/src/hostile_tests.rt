@@ -372,7 +372,7 @@ fn fills_drop_by_drop(alloc: Global, wave: &[u8]) -> Result<bool, Fail> {
     Ok(is_filled(&dripped, wave))
 }
 
-/// Looks at a render of silence with room, and at one to an output of 50 bytes.
+/// Checks a render of silence with room, and at one to an output of 50 bytes.
 fn look_at_rooms(rt: &impl Abort, whole: &Outcome, cut: &Outcome, wave: &[u8]) {
     let report = "samples 4\nbatches 1 register 0 memory 0 echo 0 full 0 events 0 end 1\n";
     assert!(rt; whole.is_done(wave, report));

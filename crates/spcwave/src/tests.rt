@@ -228,7 +228,7 @@ const COMMANDS: &[(&[&str], Status, &str)] = &[
     ),
 ];
 
-/// Looks at how these words ended, and at their report.
+/// Checks how these words ended, and at their report.
 fn look_at(rt: &impl Abort, outcome: &Outcome, words: &[&str], status: Status, report: &str) {
     assert!(rt;
         outcome.status() == status && outcome.report() == report.as_bytes(),
@@ -269,7 +269,7 @@ fn a_session_has_so_many_pages(rt: HostRuntime) -> Result<(), Fail> {
     Ok(())
 }
 
-/// Looks at the number that the process exits with, and at the complaint.
+/// Checks the number that the process exits with, and at the complaint.
 fn look_at_exit(rt: &impl Abort, ended: u8, known: &[u8], code: u8, complaint: &str) {
     assert!(rt; ended == code);
     assert!(rt; known == complaint.as_bytes());
@@ -288,7 +288,7 @@ fn what_is_given_instead_of_words(rt: HostRuntime) -> Result<(), Fail> {
     Ok(())
 }
 
-/// Looks at what the word that asks for help shows.
+/// Checks what the word that asks for help shows.
 fn look_at_help(rt: &impl Abort, outcome: &Outcome, word: &str) {
     let begins = outcome
         .report()

@@ -72,12 +72,12 @@ fn one_entry_that_loops_outside_or_to_itself(rt: HostRuntime) -> Result<(), Fail
     Ok(())
 }
 
-/// Looks at a report, and at how many bytes the first output has.
+/// Checks a report, and at how many bytes the first output has.
 fn look_at(rt: &impl Abort, outcome: &Outcome, report: &[u8], length: usize) {
     assert!(rt; outcome.report() == report && outcome.first().len() == length);
 }
 
-/// Looks at the four last samples of block 113, which holds the two bytes of the program: they are 2, -2, -2 and -2.
+/// Checks the four last samples of block 113, which holds the two bytes of the program: they are 2, -2, -2 and -2.
 fn look_at_program(rt: &impl Abort, wave: &[u8]) {
     let at = HEADER_SIZE + 2 * (16 * 113 + 12);
     assert!(rt; wave.get(at..at + 8) == Some(b"\x02\0\xfe\xff\xfe\xff\xfe\xff".as_slice()));
@@ -142,7 +142,7 @@ fn first_lawless_call(alloc: Global, calls: u32) -> Result<Option<u32>, Fail> {
     Ok(None)
 }
 
-/// Looks at all three, where no call fails.
+/// Checks all three, where no call fails.
 fn look_at_whole(rt: &impl Abort, whole: &Outcome) {
     assert!(rt; whole.is_done(STEADY_WAV, THREE_REPORT));
     assert!(rt; whole.second() == STEADY_WAV);
@@ -167,7 +167,7 @@ fn third_creation(alloc: Global) -> Result<u32, Fail> {
     )
 }
 
-/// Looks at the outputs before the third one, whose creation fails in the call of this number.
+/// Checks the outputs before the third one, whose creation fails in the call of this number.
 fn look_at_two(rt: &impl Abort, outcome: &Outcome, third: u32) {
     assert!(rt; outcome.first() == STEADY_WAV);
     assert!(rt; outcome.second() == STEADY_WAV);
@@ -185,7 +185,7 @@ fn outputs_before_one_that_fails_stay(rt: HostRuntime) -> Result<(), Fail> {
 /// All entries of the directory start at a block with its end bit alone.
 const SHORT: Pieces = &[(MEMORY, b"\x01"), (DSP + 0x5d, b"\x10")];
 
-/// Looks at the first output of all, and at the last lines of the report.
+/// Checks the first output of all, and at the last lines of the report.
 fn look_at_all(rt: &impl Abort, outcome: &Outcome) {
     assert!(rt; outcome.status() == Status::Ok && outcome.first().len() == 76);
     let last = b"\nentry ff start 0000 blocks 1 loop - worst 0 squares 0\nentries 256\n";

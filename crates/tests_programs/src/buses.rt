@@ -127,7 +127,7 @@ fn are_three_of_voice_0(records: &[Record]) -> bool {
     }
 }
 
-/// Looks at what came of those calls: each has such an answer, and three silent samples were made in such batches.
+/// Checks what came of those calls: each has such an answer, and three silent samples were made in such batches.
 fn look_at(rt: &impl Abort, known: &Known, answers: &[(u8, u8)], counts: Counts) {
     assert!(rt; known.answers.as_slice() == answers);
     assert!(rt; (known.time, known.counts) == ((3, 32), counts));

@@ -6,7 +6,7 @@ use std::process::Abort;
 use std::test::Fail;
 use trace_form::Record;
 
-/// Looks at what a program emits on a silent chip with such an FLG.
+/// Checks what a program emits on a silent chip with such an FLG.
 fn look_at(
     rt: &impl Abort,
     alloc: Global,

@@ -56,7 +56,7 @@ fn take_late(alloc: Global, code: &[u8]) -> Result<Taken, Fail> {
     take_over(alloc, &mut bus)
 }
 
-/// Looks at what a program comes to over both buses: such records, silence in each sample, and such counts of the bus that makes
+/// Checks what a program comes to over both buses: such records, silence in each sample, and such counts of the bus that makes
 /// samples late.
 fn look_at(
     rt: &impl Abort,

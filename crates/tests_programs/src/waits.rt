@@ -63,7 +63,7 @@ pub fn counts_of(batches: u64, memory: u64, full: u64, end: u64) -> Counts {
     }
 }
 
-/// Looks at what a loop comes to over both buses: the same, with such records, the second with such counts and by iterations made at once.
+/// Checks what a loop comes to over both buses: the same, with such records, the second with such counts and by iterations made at once.
 fn look_at(
     rt: &impl Abort,
     (plain, late): &(Run, Run),
@@ -132,7 +132,7 @@ fn a_driver_polls_each_counter(rt: HostRuntime) -> Result<(), Fail> {
     poll_counter(&rt, rt.alloc(), &driver(0xFF, 10, 0x04), &timer2)
 }
 
-/// Looks at a driver that writes in these samples: each write has the samples before it made, the last ones wait for the end.
+/// Checks a driver that writes in these samples: each write has the samples before it made, the last ones wait for the end.
 fn poll_counter(rt: &impl Abort, alloc: Global, code: &[u8], samples: &[u32]) -> Result<(), Fail> {
     let wanted = writes_of(alloc, 1, samples)?;
     let runs = run_both(alloc, &[(0x0400, code)], &QUIET, 0, 100)?;

@@ -118,7 +118,7 @@ fn records_of_eight() -> [Record; 8] {
     ]
 }
 
-/// Looks at a render of eight samples, which its chip made as one batch.
+/// Checks a render of eight samples, which its chip made as one batch.
 fn look_at_eight(rt: &impl Abort, eight: &Given) {
     assert!(rt; eight.frames.as_slice() == EIGHT.as_slice());
     assert!(rt; eight.records.as_slice() == records_of_eight().as_slice());
@@ -132,7 +132,7 @@ fn a_voice_is_heard_from_sample_six_on(rt: HostRuntime) -> Result<(), Fail> {
     Ok(())
 }
 
-/// Looks at 200 frames that are silent up to sample 6, made in four batches.
+/// Checks 200 frames that are silent up to sample 6, made in four batches.
 fn look_at_200(rt: &impl Abort, long: &Given) {
     assert!(rt; (long.frames.len(), long.batches) == (200, 4));
     assert!(rt; long.frames.iter().take(6).all(|frame| *frame == SILENT));

@@ -18,7 +18,7 @@ use trace_form::Record;
 struct Known {
     frames: u64,
     /// How many of them are not silent.
-    loud: u64,
+    audible: u64,
     records: Vec<Record>,
     counts: Counts,
 }
@@ -27,8 +27,8 @@ struct Known {
 fn add_all<C: Chip>(render: &mut Render<C>, known: &mut Known) -> Result<(), Fail> {
     'pieces: loop {
         let piece = render.next_piece();
-        let loud = piece.frames.iter().filter(|frame| **frame != SILENT);
-        known.loud = known.loud.wrapping_add(loud.count() as u64);
+        let audible = piece.frames.iter().filter(|frame| **frame != SILENT);
+        known.audible = known.audible.wrapping_add(audible.count() as u64);
         known.frames = known.frames.wrapping_add(piece.frames.len() as u64);
         known.records.extend_from_slice(piece.records)?;
         if piece.done {
@@ -46,7 +46,7 @@ fn report_over<C: Chip>(alloc: Global, file: &SpcFile, chip: C, samples: u32) ->
     let mut render = Render::open(alloc, file, chip, samples, 0)?;
     let mut known = Known {
         frames: 0,
-        loud: 0,
+        audible: 0,
         records: Vec::new(alloc),
         counts: render.counts(),
     };
@@ -94,10 +94,10 @@ fn a_driver_waits_for_its_timer(rt: HostRuntime) -> Result<(), Fail> {
     Ok(())
 }
 
-/// Looks at a render of so many silent frames, with such records and counts.
+/// Checks a render of so many silent frames, with such records and counts.
 fn look_at(rt: &impl Abort, known: &Known, frames: u64, records: &[Record], counts: Counts) {
     assert!(rt; known.records.as_slice() == records);
-    assert!(rt; (known.frames, known.loud) == (frames, 0));
+    assert!(rt; (known.frames, known.audible) == (frames, 0));
     assert!(rt; known.counts == counts);
 }
 

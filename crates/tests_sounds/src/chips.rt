@@ -193,7 +193,7 @@ fn the_soft_reset_silences_from_the_next_sample_on(rt: HostRuntime) -> Result<()
     Ok(())
 }
 
-/// Looks at the samples, the batches, and the samples that were made in all.
+/// Checks the samples, the batches, and the samples that were made in all.
 fn look_at_numbers(rt: &impl Abort, dsp: &Dsp, sample: u32, batches: u64, total: u64) {
     assert!(rt; (dsp.sample(), dsp.batches(), dsp.total()) == (sample, batches, total));
 }
@@ -287,7 +287,7 @@ fn play_beside(
     assert!(rt; have_same_registers(&whole.dsp, &split.dsp));
 }
 
-/// Looks at both chips at the end: one played 4 batches, the other 255.
+/// Checks both chips at the end: one played 4 batches, the other 255.
 fn look_beside(rt: &impl Abort, whole: &Stage, split: &Stage) {
     assert!(rt; (whole.dsp.batches(), split.dsp.batches()) == (4, 255));
     assert!(rt; have_same_bytes(&whole.memory, &split.memory));
@@ -390,7 +390,7 @@ fn the_echo_wraps_in_its_window(rt: HostRuntime) -> Result<(), Fail> {
     Ok(())
 }
 
-/// Looks at the pages that the samples to come read and write, and at whether the echo can write what they read.
+/// Checks the pages that the samples to come read and write, and at whether the echo can write what they read.
 fn look_at_reach(rt: &impl Abort, stage: &Stage, read: &[u8], written: &[u8], entangled: bool) {
     let (dsp, memory) = (&stage.dsp, &stage.memory);
     assert!(rt; (0..=255u8).all(|page| dsp.reads_page(memory, page) == read.contains(&page)));

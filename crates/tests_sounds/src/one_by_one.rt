@@ -52,7 +52,7 @@ fn two_of_demo_7(alloc: Global) -> Result<(Stage, Stage), Fail> {
     Ok((opened(alloc, &file)?, opened(alloc, &file)?))
 }
 
-/// Looks at a chip after a batch of 64, and at another one after 64 batches, which gave these frames and records. All eight voices are
+/// Checks a chip after a batch of 64, and at another one after 64 batches, which gave these frames and records. All eight voices are
 /// keyed at the first poll, in sample 0, and silent for six samples.
 fn look_at(rt: &impl Abort, whole: &Stage, split: &Stage, frames: &[Frame], records: &[Record]) {
     assert!(rt; (frames.len(), records.len()) == (64, 512));

@@ -196,7 +196,7 @@ fn cut_many(
     cut_from(alloc, pieces, list.as_slice())
 }
 
-/// Looks at the report of what was done.
+/// Checks the report of what was done.
 fn look_at(rt: &impl Abort, outcome: &Outcome, report: &str) {
     assert!(rt;
         outcome.status() == Status::Ok && outcome.report() == report.as_bytes(),
@@ -223,7 +223,7 @@ const WRONG: &[(&[u8], &str)] = &[
     (b"7 1\n\n0 1\n", "spcwave: cut list is wrong at line 2\n"),
 ];
 
-/// Looks at a list that was refused.
+/// Checks a list that was refused.
 fn look_at_refusal(rt: &impl Abort, outcome: &Outcome, line: &str) {
     assert!(rt; outcome.is_refused(Status::CutList, line), "{line}");
 }

@@ -133,27 +133,27 @@ module _ (memory : List ℕ) (loop_word : ℕ) (first : Place) (d : ℕ) (at : P
   -- what is so of the headers of the groups so far is so of those of the block
   pub quiet_in_block : (reset silent : Bool) → ((e : ℕ) → e ≤ d → is_silencing reset (byte_at memory (place_after memory loop_word first e).block) ≡ true → silent ≡ true)
       → (e : ℕ) → e < d + left → is_silencing reset (byte_at memory (place_after memory loop_word first e).block) ≡ true → silent ≡ true
-  quiet_in_block reset silent quiet e few loud = by (nat_le e d) refl
+  quiet_in_block reset silent quiet e few wrapped = by (nat_le e d) refl
     where
       by : (b : Bool) → nat_le e d ≡ b → silent ≡ true
-      by true f = let low : e ≤ d = grind (arith, nat_tests, f) in quiet e low loud
+      by true f = let low : e ≤ d = grind (arith, nat_tests, f) in quiet e low wrapped
       by false f =
           let high : d < e = grind (arith, nat_tests, f) in
           let same : e ≡ d + (e - d) = omega (arith, high) in
           let here : (place_after memory loop_word first e).block ≡ (place_after memory loop_word first d).block =
           ap (λ (n : ℕ). (place_after memory loop_word first n).block) same ∙ ap (λ (p : Place). p.block) (within_block (e - d) (omega (arith, few, high)) ∙ refl) ∙ ap (λ (p : Place). p.block) there in
-          quiet d (omega arith) (sym (ap (λ (block : ℕ). is_silencing reset (byte_at memory block)) here) ∙ loud)
+          quiet d (omega arith) (sym (ap (λ (block : ℕ). is_silencing reset (byte_at memory block)) here) ∙ wrapped)
 
   pub quiet_after_block : (reset silent : Bool) (next : Place) → next ≡ next_place memory loop_word (last_of at.block)
       → ((e : ℕ) → e ≤ d → is_silencing reset (byte_at memory (place_after memory loop_word first e).block) ≡ true → silent ≡ true)
       → (is_silencing reset (byte_at memory next.block) ≡ true → silent ≡ true)
       → (e : ℕ) → e ≤ d + left → is_silencing reset (byte_at memory (place_after memory loop_word first e).block) ≡ true → silent ≡ true
-  quiet_after_block reset silent next is quiet new e few loud = by (nat_lt e (d + left)) refl
+  quiet_after_block reset silent next is quiet new e few wrapped = by (nat_lt e (d + left)) refl
     where
       by : (b : Bool) → nat_lt e (d + left) ≡ b → silent ≡ true
-      by true f = let low : e < d + left = grind (arith, nat_tests, f) in quiet_in_block reset silent quiet e low loud
+      by true f = let low : e < d + left = grind (arith, nat_tests, f) in quiet_in_block reset silent quiet e low wrapped
       by false f =
           let high : d + left ≤ e = grind (arith, nat_tests, f) in
           let same : e ≡ d + left = omega (arith, high, few) in
           let here : (place_after memory loop_word first e).block ≡ next.block = ap (λ (n : ℕ). (place_after memory loop_word first n).block) same ∙ ap (λ (p : Place). p.block) (after_block ∙ sym is) in
-          new (sym (ap (λ (block : ℕ). is_silencing reset (byte_at memory block)) here) ∙ loud)
+          new (sym (ap (λ (block : ℕ). is_silencing reset (byte_at memory block)) here) ∙ wrapped)

@@ -137,11 +137,11 @@ module _ (own : VoiceView) (lane : Lane) (n m : ℕ) (before ends : List ℕ) (o
 
   silent_at : (j : ℕ) → j < m → is_silencing own.reset (byte_at lane.memory (there (g j)).block) ≡ true → IsSilent voice.envelope
   unfolding place_after
-  silent_at j below loud = by (g j) refl
+  silent_at j below wrapped = by (g j) refl
     where
       by : (d : ℕ) → g j ≡ d → IsSilent voice.envelope
-      by zero same = free_envelope.silencing (rw same at loud)
-      by (suc d) same = quiet j below (omega (arith, same)) loud
+      by zero same = free_envelope.silencing (rw same at wrapped)
+      by (suc d) same = quiet j below (omega (arith, same)) wrapped
 
   -- the envelope stays free-running, as only the steps of its envelope change that
   free_at : (j : ℕ) → j < m → (s j).envelope ≡ e j → HasFreeEnvelope (lane.inputs (n + j)).reset (lane.inputs (n + j)).koff lane.memory (s j)
@@ -149,7 +149,7 @@ module _ (own : VoiceView) (lane : Lane) (n m : ℕ) (before ends : List ℕ) (o
       let plain = renders j below in
       rw (plain.reset, plain.koff) record {
         delay = (stands j (omega (arith, below))).delay;
-        silencing = λ loud. rw same (stays_silent voice.envelope lane.regs (lane.k + n) j (silent_at j below (rw (block_is j (omega (arith, below))) at loud)));
+        silencing = λ wrapped. rw same (stays_silent voice.envelope lane.regs (lane.k + n) j (silent_at j below (rw (block_is j (omega (arith, below))) at wrapped)));
         key_off = λ off. rw same (stays_released voice.envelope lane.regs (lane.k + n) j (free_envelope.key_off off));
       }
 

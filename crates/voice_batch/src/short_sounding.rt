@@ -171,11 +171,11 @@ pub(crate) fn factors_of_level(level: u16) -> [i16; AT_ONCE]
 }
 
 /// A sample at a level by the level's factor. From half the greatest level on the factor has wrapped.
-fn product_at_level(factor: i16, loud: bool, sample: i16) -> i16
-    ensures { (level : ℕ) → level ≤ 0x7ff → factor ≡ factor_of (pos level) → loud ≡ nat_le HALF_LEVEL level
+fn product_at_level(factor: i16, wrapped: bool, sample: i16) -> i16
+    ensures { (level : ℕ) → level ≤ 0x7ff → factor ≡ factor_of (pos level) → wrapped ≡ nat_le HALF_LEVEL level
         → result ≡ scaled (pos level) sample 11 }
 {
-    if loud {
+    if wrapped {
         product_by_high_factor(factor, sample)
     } else {
         product_by_low_factor(factor, sample)
@@ -187,15 +187,15 @@ fn eight_at_level(
     taps: &[ShortTaps; BATCH_SIZE],
     from: usize,
     factors: &[i16; AT_ONCE],
-    loud: bool,
+    wrapped: bool,
 ) -> [i16; AT_ONCE]
     requires { from + AT_ONCE ≤ BATCH_SIZE }
-    ensures { (level : ℕ) → level ≤ 0x7ff → AreFactorsOfLevel level factors.now → loud ≡ nat_le HALF_LEVEL level → (k : ℕ) → k < AT_ONCE
+    ensures { (level : ℕ) → level ≤ 0x7ff → AreFactorsOfLevel level factors.now → wrapped ≡ nat_le HALF_LEVEL level → (k : ℕ) → k < AT_ONCE
         → number_at result k ≡ sounding_at level (short_mixed_at taps.now (from + k)) }
 {
     let mut eight = [0; AT_ONCE];
     for k in 0..AT_ONCE {
-        let product = product_at_level(factors[k], loud, taps[from + k].mixed());
+        let product = product_at_level(factors[k], wrapped, taps[from + k].mixed());
         eight[k] = clear_bit0(product);
     }
     eight
@@ -221,11 +221,11 @@ pub(crate) fn put_short(
     n: u8,
     taps: &[ShortTaps; BATCH_SIZE],
     factors: &[i16; AT_ONCE],
-    loud: bool,
+    wrapped: bool,
 )
     requires few { at + n ≤ BATCH_SIZE }
     requires early { at ≤ LAST_OF_EIGHT }
-    ensures outs { (level : ℕ) → level ≤ 0x7ff → AreFactorsOfLevel level factors.now → loud ≡ nat_le HALF_LEVEL level → (j : ℕ) → j < n
+    ensures outs { (level : ℕ) → level ≤ 0x7ff → AreFactorsOfLevel level factors.now → wrapped ≡ nat_le HALF_LEVEL level → (j : ℕ) → j < n
         → number_at outs.new (at + j) ≡ sounding_at level (short_mixed_at taps.now j) }
     ensures before { (i : ℕ) → i < at → number_at outs.new i ≡ number_at outs.old i }
 {
@@ -233,7 +233,7 @@ pub(crate) fn put_short(
     let last = usize::from(LAST_OF_EIGHT - at);
     for c in 0..(usize::from(n) + AT_ONCE - 1) / AT_ONCE {
         let from = (AT_ONCE * c).min(last);
-        let eight = eight_at_level(taps, from, factors, loud);
+        let eight = eight_at_level(taps, from, factors, wrapped);
         put_eight(outs, begin + from, &eight);
     }
 }

@@ -234,8 +234,8 @@ impl<'a> SpanPlan<'a> {
             Some(factors) if at <= LAST_OF_EIGHT => {
                 take_short_span_taps(&mut rows.short_taps, n, row, factors, &self.span_phases);
                 let factors = factors_of_level(level);
-                let loud = HALF_LEVEL <= level;
-                put_short(outs, at, n, &rows.short_taps, &factors, loud);
+                let wrapped = HALF_LEVEL <= level;
+                put_short(outs, at, n, &rows.short_taps, &factors, wrapped);
             }
             _ => {
                 take_span_taps(&mut rows.taps, n, row, reads.table, &self.span_phases);

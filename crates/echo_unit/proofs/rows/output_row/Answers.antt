@@ -12,5 +12,5 @@ returns-then-is_muted c j below =
 
 pub returns : goal.returns
 returns c =
-    let loud : is_muted c.args.regs.now.flg ≡ false = sym c.is_muted.ensures ∙ c.if-is_muted.false in
-    c.row_of_frames.ensures loud
+    let unmuted : is_muted c.args.regs.now.flg ≡ false = sym c.is_muted.ensures ∙ c.if-is_muted.false in
+    c.row_of_frames.ensures unmuted

@@ -20,6 +20,6 @@ loop-j-preserved c =
 
 pub returns : goal.returns
 unfolding output_frame
-returns c loud j below =
+returns c unmuted j below =
     c.loop-j.invariant.done j (omega (arith, below))
-    ∙ rw (loud, c.row_of_outputs-left.ensures j below, c.row_of_outputs-right.ensures j below) refl
+    ∙ rw (unmuted, c.row_of_outputs-left.ensures j below, c.row_of_outputs-right.ensures j below) refl

@@ -30,7 +30,7 @@ returns-clause-played c plays before can =
     let next = rw (c.span_plan-span_plan.ensures.loop_word, c.span_plan-span_plan.ensures.first, ← memory, ← regs) at c.read_span-span.ensures.span.next in
     let kept = rw (c.span_plan-span_plan.ensures.loop_word, c.span_plan-span_plan.ensures.first, c.begin_row.ensures.row, ← memory, ← regs) at c.read_span-span.ensures.row in
     let awake : is_silencing c.span_plan-span_plan.result.reset (byte_at c.args.reads.now.memory.now c.span_plan-span_plan.result.first.block) ≡ true → c.span_plan-span_plan.result.silent ≡ true =
-    λ loud. c.span_plan-span_plan.ensures.all_silent (c.requires.free_envelope.silencing (rw (c.span_plan-span_plan.ensures.reset, c.span_plan-span_plan.ensures.first) at loud)) in
+    λ audible. c.span_plan-span_plan.ensures.all_silent (c.requires.free_envelope.silencing (rw (c.span_plan-span_plan.ensures.reset, c.span_plan-span_plan.ensures.first) at audible)) in
     let quiet = rw (c.span_plan-span_plan.ensures.reset, c.span_plan-span_plan.ensures.loop_word, c.span_plan-span_plan.ensures.first, ← memory, ← regs) at (c.read_span-span.ensures.quiet awake) in
     let marks = rw (c.span_plan-span_plan.ensures.voice, c.span_plan-span_plan.ensures.loop_word, c.span_plan-span_plan.ensures.first, ← memory, ← regs) at c.read_span-span.ensures.ends.marks in
     let outs = rw (c.span_plan-span_plan.ensures.noisy, c.span_plan-span_plan.ensures.envelope, ← table, ← regs) at (c.sound-sounded.ensures.outs plays.k over.clock) in
@@ -47,7 +47,7 @@ returns-clause-played c plays before can =
     (phase_at c.span_plan-span_plan.result.span_phases)
     (phases_in_span c.args.reads.now c.args.work.now.pitches plays c.span_plan-span_plan.result.span_phases c.args.at c.args.n c.read_span-span.result.samples c.args.voice.now.position c.put_phases_of.new.phases
     over renders c.requires.few few c.requires.pitch c.span_plan-span_plan.ensures.position c.span_plan-span_plan.ensures.pitch c.span_plan-span_plan.ensures.modulated c.span_plan-span_plan.ensures.phases c.put_phases_of.ensures.phases)
-    (λ j below some loud. c.span_plan-span_plan.ensures.silent (quiet j below loud))
+    (λ j below some audible. c.span_plan-span_plan.ensures.silent (quiet j below audible))
     c.take_envelope.new.self c.read_span-span.new.ends c.sound-sounded.new.outs row
     (rw groups at kept) (rw groups at twelve) position
     (rw groups at (ap place_of took ∙ ap place_of c.go_to.ensures ∙ next)) (ap (λ (w : VoiceState). w.delay) took ∙ ap (λ (w : VoiceState). w.delay) c.go_to.ensures)
@@ -64,7 +64,7 @@ returns-clause-level c plays before can =
     let few : c.read_span-span.result.samples ≤ c.args.n = c.read_span-span.ensures.span.few in
     let free_envelope : HasFreeEnvelope c.args.reads.now.seen.reset (has_bit c.args.reads.now.seen.koff c.args.reads.now.seen.voice) plays.memory c.args.voice.now = rw memory c.requires.free_envelope in
     let awake : is_silencing c.span_plan-span_plan.result.reset (byte_at c.args.reads.now.memory.now c.span_plan-span_plan.result.first.block) ≡ true → c.span_plan-span_plan.result.silent ≡ true =
-    λ loud. c.span_plan-span_plan.ensures.all_silent (c.requires.free_envelope.silencing (rw (c.span_plan-span_plan.ensures.reset, c.span_plan-span_plan.ensures.first) at loud)) in
+    λ audible. c.span_plan-span_plan.ensures.all_silent (c.requires.free_envelope.silencing (rw (c.span_plan-span_plan.ensures.reset, c.span_plan-span_plan.ensures.first) at audible)) in
     let quiet = rw (c.span_plan-span_plan.ensures.reset, c.span_plan-span_plan.ensures.loop_word, c.span_plan-span_plan.ensures.first, ← memory, ← regs) at (c.read_span-span.ensures.quiet awake) in
     let same = last_level c.args.reads.now.seen plays c.args.at c.read_span-span.result.samples before c.args.made.now.ends c.args.made.now.outs c.args.voice.now played free_envelope c.begin_row.ensures.twelve
     (rw c.span_plan-span_plan.ensures.position at c.span_plan-span_plan.ensures.span_plan.span_phases.position)
@@ -72,7 +72,7 @@ returns-clause-level c plays before can =
     (phase_at c.span_plan-span_plan.result.span_phases)
     (phases_in_span c.args.reads.now c.args.work.now.pitches plays c.span_plan-span_plan.result.span_phases c.args.at c.args.n c.read_span-span.result.samples c.args.voice.now.position c.put_phases_of.new.phases
     over renders c.requires.few few c.requires.pitch c.span_plan-span_plan.ensures.position c.span_plan-span_plan.ensures.pitch c.span_plan-span_plan.ensures.modulated c.span_plan-span_plan.ensures.phases c.put_phases_of.ensures.phases)
-    (λ j below some loud. c.span_plan-span_plan.ensures.silent (quiet j below loud)) in
+    (λ j below some audible. c.span_plan-span_plan.ensures.silent (quiet j below audible)) in
     rw (c.span_plan-span_plan.ensures.envelope, ← regs) at (c.sound-sounded.ensures.level plays.k over.clock) ∙ sym same
 
 pub returns-clause-lower : goal.returns-clause-lower

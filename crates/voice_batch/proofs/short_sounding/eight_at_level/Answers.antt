@@ -19,7 +19,7 @@ loop-k-preserved c =
     let many : length c.args.taps.now ≡ 64 = search rules in
     let none : ShortTaps = record { bytes = [] } in
     let mixed : to_z w16 (of_z w16 c.mixed.result) ≡ c.mixed.result = search rules in
-    let value : (level : ℕ) → level ≤ 0x7ff → AreFactorsOfLevel level c.args.factors.now → c.args.loud ≡ nat_le 0x400 level → c.clear_bit0.result ≡ sounding_at level (short_mixed_at c.args.taps.now (from + k)) =
+    let value : (level : ℕ) → level ≤ 0x7ff → AreFactorsOfLevel level c.args.factors.now → c.args.wrapped ≡ nat_le 0x400 level → c.clear_bit0.result ≡ sounding_at level (short_mixed_at c.args.taps.now (from + k)) =
     λ level most are heard. (
     let mix : c.mixed.result ≡ short_mixed_at c.args.taps.now (from + k) =
     c.mixed.ensures ∙ sym (ap short_mixed (slice_get-get_or c.args.taps.now (from + k) none (rw many within))) in

@@ -48,8 +48,8 @@ blocks-2-preserved c =
           (c.next_block-next.ensures.ends.marks j below) (c.blocks-2.invariant.marks j below);
       before = λ i below. c.next_block-next.ensures.ends.before_it i below ∙ c.blocks-2.invariant.before i below;
       later = λ i above. c.next_block-next.ensures.ends.later i above ∙ c.blocks-2.invariant.later i above;
-      quiet = λ awake e few loud. quiet_after_block memory loop_word first d at there group left all c.args.self.now.reset c.args.self.now.silent c.next_block-next.result.first c.next_block-next.ensures.first
-          (c.blocks-2.invariant.quiet awake) (c.next_block-next.ensures.quiet c.if-next.false) e few loud;
+      quiet = λ awake e few audible. quiet_after_block memory loop_word first d at there group left all c.args.self.now.reset c.args.self.now.silent c.next_block-next.result.first c.next_block-next.ensures.first
+          (c.blocks-2.invariant.quiet awake) (c.next_block-next.ensures.quiet c.if-next.false) e few audible;
     }
 
 -- the span ends within a block
@@ -102,11 +102,11 @@ returns-then-count-d-clause-ends c = record {
         ∙ ap (λ (b : Bool). slice_index c.args.ends.now (c.args.at + j) + bit_if b v) all
 
 pub returns-then-count-d-clause-quiet : goal.returns-then-count-d-clause-quiet
-returns-then-count-d-clause-quiet c awake j below loud =
+returns-then-count-d-clause-quiet c awake j below audible =
     let rise = groups_before-rise (phase_at c.args.self.now.span_phases) c.args.n c.requires.span_plan.span_phases.moves j c.args.n (omega (arith, below)) (omega arith) in
     quiet_in_block c.args.memory.now c.args.self.now.loop_word c.args.self.now.first c.blocks-2.d c.blocks-2.place c.blocks-2.invariant.there c.blocks-2.invariant.group
     c.groups_left-left.result c.groups_left-left.ensures.value c.args.self.now.reset c.args.self.now.silent (c.blocks-2.invariant.quiet awake) _
-    (omega (arith, rise, c.groups_in-count.ensures.value, c.blocks-2.invariant.few, c.if-count-d.true)) loud
+    (omega (arith, rise, c.groups_in-count.ensures.value, c.blocks-2.invariant.few, c.if-count-d.true)) audible
 
 -- the header of the next block silences the voice
 pub returns-then-next-clause-span : goal.returns-then-next-clause-span
@@ -180,12 +180,12 @@ returns-then-next-clause-ends c = record {
             c.next_block-next.ensures.ends.later i late ∙ c.blocks-2.invariant.later i late
 
 pub returns-then-next-clause-quiet : goal.returns-then-next-clause-quiet
-returns-then-next-clause-quiet c awake j below loud =
+returns-then-next-clause-quiet c awake j below audible =
     let rise = groups_before-rise (phase_at c.args.self.now.span_phases) c.args.n c.requires.span_plan.span_phases.moves j c.reading_sample-sample.result (omega (arith, below))
     (omega (arith, c.reading_sample-sample.ensures.within)) in
     quiet_in_block c.args.memory.now c.args.self.now.loop_word c.args.self.now.first c.blocks-2.d c.blocks-2.place c.blocks-2.invariant.there c.blocks-2.invariant.group
     c.groups_left-left.result c.groups_left-left.ensures.value c.args.self.now.reset c.args.self.now.silent (c.blocks-2.invariant.quiet awake) _
-    (omega (arith, rise, c.reading_sample-sample.ensures.before, c.groups_left-left.ensures.some)) loud
+    (omega (arith, rise, c.reading_sample-sample.ensures.before, c.groups_left-left.ensures.some)) audible
 
 -- all groups of the span are read, and a block ends with them
 pub returns-clause-ends : goal.returns-clause-ends
@@ -205,6 +205,6 @@ returns-clause-ends c = record {
         c.blocks-2.invariant.marks j below ∙ ap (λ (b : Bool). slice_index c.args.ends.now (c.args.at + j) + bit_if b v) all
 
 pub returns-clause-quiet : goal.returns-clause-quiet
-returns-clause-quiet c awake j below loud =
+returns-clause-quiet c awake j below audible =
     let rise = groups_before-rise (phase_at c.args.self.now.span_phases) c.args.n c.requires.span_plan.span_phases.moves j c.args.n (omega (arith, below)) (omega arith) in
-    c.blocks-2.invariant.quiet awake _ (omega (arith, rise, c.groups_in-count.ensures.value, c.blocks-2-test.false, c.blocks-2.invariant.few)) loud
+    c.blocks-2.invariant.quiet awake _ (omega (arith, rise, c.groups_in-count.ensures.value, c.blocks-2-test.false, c.blocks-2.invariant.few)) audible
