@@ -19,8 +19,8 @@ use crate::sample::make_sample;
 use crate::saved::DspState;
 use aram_core::Aram;
 use batch_rows::{
-    BatchSamples, PlayedBatch, is_echo_apart, is_echo_surely_apart, play_batch,
-    push_records, samples_apart,
+    BatchSamples, PlayedBatch, is_echo_apart, is_echo_surely_apart, play_batch, push_records,
+    samples_apart,
 };
 use dsp_state::registers::{ENDX, KON};
 use dsp_state::{ChipState, Hidden, Settings, settings_of};

@@ -10,9 +10,7 @@ use std::alloc::Global;
 use std::process::Abort;
 use std::test::Fail;
 use voice_batch::{PlayedRows, Workspace, play};
-use voice_unit::{
-    BatchRows, OutRow, Voice, VoiceIn, VoiceOut, VoiceReads, VoiceRegs, VoiceView,
-};
+use voice_unit::{BatchRows, OutRow, Voice, VoiceIn, VoiceOut, VoiceReads, VoiceRegs, VoiceView};
 
 /// What a step reads in sample `k`, where a key on waits for the first poll.
 fn input_of(k: u32) -> VoiceIn
