@@ -9,6 +9,7 @@ pub mod bus;
 mod bytes;
 pub mod cpu;
 mod execute;
+mod instruct;
 mod jumps;
 mod laws;
 pub mod mem_bus;

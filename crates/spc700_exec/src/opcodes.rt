@@ -3,7 +3,7 @@
 //! opcodes are inlined into `instruct`, and that into the step, so that a step goes to its arm at once.
 #![tactic(auto, unfolding(spc700_table::specs::Opcodes::row_of, spc700_table::specs::Opcodes::columns, spc700_table::specs::Cycles::printed_cycles, spc700_table::specs::Cycles::cycle_map))]
 
-ghost use Rattle.std.specs.Prelude.{◌≡◌, ◌+◌, ◌<◌};
+ghost use Rattle.std.specs.Prelude.{◌≡◌, ℕ, ◌+◌, ◌<◌};
 ghost use Rattle.spc700_table.specs.Opcodes.{row_of};
 ghost use Rattle.spc700_exec.specs.Pieces.{HasAccessesLeft, IsWholeInstruction};
 
@@ -33,12 +33,12 @@ macro_rules! instruction_of {
 
 /// The opcodes 0x00 to 0x0F.
 #[inline]
-fn from_00<B: Bus>(cpu: &mut Cpu, bus: &mut B, low: u8)
+pub fn from_00<B: Bus, const LOW: usize>(cpu: &mut Cpu, bus: &mut B)
     requires room { HasAccessesLeft 12 B.means bus.old }
-    requires digit { low < 16 }
-    ensures { IsWholeInstruction B.means (row_of (0x00 + low)) cpu.old bus.old cpu.new bus.new }
+    requires digit { LOW < 16 }
+    ensures { (opcode : ℕ) → opcode ≡ 0x00 + LOW → IsWholeInstruction B.means (row_of opcode) cpu.old bus.old cpu.new bus.new }
 {
-    instruction_of!(cpu, bus, 0x00, low,
+    instruction_of!(cpu, bus, 0x00, LOW,
         0x0 => Nop,
         0x1 => TableCall,
         0x2 => BitInPlace(BitKind::Set),
@@ -54,12 +54,12 @@ fn from_00<B: Bus>(cpu: &mut Cpu, bus: &mut B, low: u8)
 
 /// The opcodes 0x10 to 0x1F.
 #[inline]
-fn from_10<B: Bus>(cpu: &mut Cpu, bus: &mut B, low: u8)
+pub fn from_10<B: Bus, const LOW: usize>(cpu: &mut Cpu, bus: &mut B)
     requires room { HasAccessesLeft 12 B.means bus.old }
-    requires digit { low < 16 }
-    ensures { IsWholeInstruction B.means (row_of (0x10 + low)) cpu.old bus.old cpu.new bus.new }
+    requires digit { LOW < 16 }
+    ensures { (opcode : ℕ) → opcode ≡ 0x10 + LOW → IsWholeInstruction B.means (row_of opcode) cpu.old bus.old cpu.new bus.new }
 {
-    instruction_of!(cpu, bus, 0x10, low,
+    instruction_of!(cpu, bus, 0x10, LOW,
         0x0 => BranchOnFlag { mask: NEGATIVE, on: false },
         0x1 => TableCall,
         0x2 => BitInPlace(BitKind::Clear),
@@ -75,12 +75,12 @@ fn from_10<B: Bus>(cpu: &mut Cpu, bus: &mut B, low: u8)
 
 /// The opcodes 0x20 to 0x2F.
 #[inline]
-fn from_20<B: Bus>(cpu: &mut Cpu, bus: &mut B, low: u8)
+pub fn from_20<B: Bus, const LOW: usize>(cpu: &mut Cpu, bus: &mut B)
     requires room { HasAccessesLeft 12 B.means bus.old }
-    requires digit { low < 16 }
-    ensures { IsWholeInstruction B.means (row_of (0x20 + low)) cpu.old bus.old cpu.new bus.new }
+    requires digit { LOW < 16 }
+    ensures { (opcode : ℕ) → opcode ≡ 0x20 + LOW → IsWholeInstruction B.means (row_of opcode) cpu.old bus.old cpu.new bus.new }
 {
-    instruction_of!(cpu, bus, 0x20, low,
+    instruction_of!(cpu, bus, 0x20, LOW,
         0x0 => PutFlag { mask: DIRECT_PAGE, on: false },
         0x1 => TableCall,
         0x2 => BitInPlace(BitKind::Set),
@@ -96,12 +96,12 @@ fn from_20<B: Bus>(cpu: &mut Cpu, bus: &mut B, low: u8)
 
 /// The opcodes 0x30 to 0x3F.
 #[inline]
-fn from_30<B: Bus>(cpu: &mut Cpu, bus: &mut B, low: u8)
+pub fn from_30<B: Bus, const LOW: usize>(cpu: &mut Cpu, bus: &mut B)
     requires room { HasAccessesLeft 12 B.means bus.old }
-    requires digit { low < 16 }
-    ensures { IsWholeInstruction B.means (row_of (0x30 + low)) cpu.old bus.old cpu.new bus.new }
+    requires digit { LOW < 16 }
+    ensures { (opcode : ℕ) → opcode ≡ 0x30 + LOW → IsWholeInstruction B.means (row_of opcode) cpu.old bus.old cpu.new bus.new }
 {
-    instruction_of!(cpu, bus, 0x30, low,
+    instruction_of!(cpu, bus, 0x30, LOW,
         0x0 => BranchOnFlag { mask: NEGATIVE, on: true },
         0x1 => TableCall,
         0x2 => BitInPlace(BitKind::Clear),
@@ -117,12 +117,12 @@ fn from_30<B: Bus>(cpu: &mut Cpu, bus: &mut B, low: u8)
 
 /// The opcodes 0x40 to 0x4F.
 #[inline]
-fn from_40<B: Bus>(cpu: &mut Cpu, bus: &mut B, low: u8)
+pub fn from_40<B: Bus, const LOW: usize>(cpu: &mut Cpu, bus: &mut B)
     requires room { HasAccessesLeft 12 B.means bus.old }
-    requires digit { low < 16 }
-    ensures { IsWholeInstruction B.means (row_of (0x40 + low)) cpu.old bus.old cpu.new bus.new }
+    requires digit { LOW < 16 }
+    ensures { (opcode : ℕ) → opcode ≡ 0x40 + LOW → IsWholeInstruction B.means (row_of opcode) cpu.old bus.old cpu.new bus.new }
 {
-    instruction_of!(cpu, bus, 0x40, low,
+    instruction_of!(cpu, bus, 0x40, LOW,
         0x0 => PutFlag { mask: DIRECT_PAGE, on: true },
         0x1 => TableCall,
         0x2 => BitInPlace(BitKind::Set),
@@ -138,12 +138,12 @@ fn from_40<B: Bus>(cpu: &mut Cpu, bus: &mut B, low: u8)
 
 /// The opcodes 0x50 to 0x5F.
 #[inline]
-fn from_50<B: Bus>(cpu: &mut Cpu, bus: &mut B, low: u8)
+pub fn from_50<B: Bus, const LOW: usize>(cpu: &mut Cpu, bus: &mut B)
     requires room { HasAccessesLeft 12 B.means bus.old }
-    requires digit { low < 16 }
-    ensures { IsWholeInstruction B.means (row_of (0x50 + low)) cpu.old bus.old cpu.new bus.new }
+    requires digit { LOW < 16 }
+    ensures { (opcode : ℕ) → opcode ≡ 0x50 + LOW → IsWholeInstruction B.means (row_of opcode) cpu.old bus.old cpu.new bus.new }
 {
-    instruction_of!(cpu, bus, 0x50, low,
+    instruction_of!(cpu, bus, 0x50, LOW,
         0x0 => BranchOnFlag { mask: OVERFLOW, on: false },
         0x1 => TableCall,
         0x2 => BitInPlace(BitKind::Clear),
@@ -159,12 +159,12 @@ fn from_50<B: Bus>(cpu: &mut Cpu, bus: &mut B, low: u8)
 
 /// The opcodes 0x60 to 0x6F.
 #[inline]
-fn from_60<B: Bus>(cpu: &mut Cpu, bus: &mut B, low: u8)
+pub fn from_60<B: Bus, const LOW: usize>(cpu: &mut Cpu, bus: &mut B)
     requires room { HasAccessesLeft 12 B.means bus.old }
-    requires digit { low < 16 }
-    ensures { IsWholeInstruction B.means (row_of (0x60 + low)) cpu.old bus.old cpu.new bus.new }
+    requires digit { LOW < 16 }
+    ensures { (opcode : ℕ) → opcode ≡ 0x60 + LOW → IsWholeInstruction B.means (row_of opcode) cpu.old bus.old cpu.new bus.new }
 {
-    instruction_of!(cpu, bus, 0x60, low,
+    instruction_of!(cpu, bus, 0x60, LOW,
         0x0 => PutFlag { mask: CARRY, on: false },
         0x1 => TableCall,
         0x2 => BitInPlace(BitKind::Set),
@@ -180,12 +180,12 @@ fn from_60<B: Bus>(cpu: &mut Cpu, bus: &mut B, low: u8)
 
 /// The opcodes 0x70 to 0x7F.
 #[inline]
-fn from_70<B: Bus>(cpu: &mut Cpu, bus: &mut B, low: u8)
+pub fn from_70<B: Bus, const LOW: usize>(cpu: &mut Cpu, bus: &mut B)
     requires room { HasAccessesLeft 12 B.means bus.old }
-    requires digit { low < 16 }
-    ensures { IsWholeInstruction B.means (row_of (0x70 + low)) cpu.old bus.old cpu.new bus.new }
+    requires digit { LOW < 16 }
+    ensures { (opcode : ℕ) → opcode ≡ 0x70 + LOW → IsWholeInstruction B.means (row_of opcode) cpu.old bus.old cpu.new bus.new }
 {
-    instruction_of!(cpu, bus, 0x70, low,
+    instruction_of!(cpu, bus, 0x70, LOW,
         0x0 => BranchOnFlag { mask: OVERFLOW, on: true },
         0x1 => TableCall,
         0x2 => BitInPlace(BitKind::Clear),
@@ -200,12 +200,12 @@ fn from_70<B: Bus>(cpu: &mut Cpu, bus: &mut B, low: u8)
 
 /// The opcodes 0x80 to 0x8F.
 #[inline]
-fn from_80<B: Bus>(cpu: &mut Cpu, bus: &mut B, low: u8)
+pub fn from_80<B: Bus, const LOW: usize>(cpu: &mut Cpu, bus: &mut B)
     requires room { HasAccessesLeft 12 B.means bus.old }
-    requires digit { low < 16 }
-    ensures { IsWholeInstruction B.means (row_of (0x80 + low)) cpu.old bus.old cpu.new bus.new }
+    requires digit { LOW < 16 }
+    ensures { (opcode : ℕ) → opcode ≡ 0x80 + LOW → IsWholeInstruction B.means (row_of opcode) cpu.old bus.old cpu.new bus.new }
 {
-    instruction_of!(cpu, bus, 0x80, low,
+    instruction_of!(cpu, bus, 0x80, LOW,
         0x0 => PutFlag { mask: CARRY, on: true },
         0x1 => TableCall,
         0x2 => BitInPlace(BitKind::Set),
@@ -221,12 +221,12 @@ fn from_80<B: Bus>(cpu: &mut Cpu, bus: &mut B, low: u8)
 
 /// The opcodes 0x90 to 0x9F.
 #[inline]
-fn from_90<B: Bus>(cpu: &mut Cpu, bus: &mut B, low: u8)
+pub fn from_90<B: Bus, const LOW: usize>(cpu: &mut Cpu, bus: &mut B)
     requires room { HasAccessesLeft 12 B.means bus.old }
-    requires digit { low < 16 }
-    ensures { IsWholeInstruction B.means (row_of (0x90 + low)) cpu.old bus.old cpu.new bus.new }
+    requires digit { LOW < 16 }
+    ensures { (opcode : ℕ) → opcode ≡ 0x90 + LOW → IsWholeInstruction B.means (row_of opcode) cpu.old bus.old cpu.new bus.new }
 {
-    instruction_of!(cpu, bus, 0x90, low,
+    instruction_of!(cpu, bus, 0x90, LOW,
         0x0 => BranchOnFlag { mask: CARRY, on: false },
         0x1 => TableCall,
         0x2 => BitInPlace(BitKind::Clear),
@@ -242,12 +242,12 @@ fn from_90<B: Bus>(cpu: &mut Cpu, bus: &mut B, low: u8)
 
 /// The opcodes 0xA0 to 0xAF.
 #[inline]
-fn from_a0<B: Bus>(cpu: &mut Cpu, bus: &mut B, low: u8)
+pub fn from_a0<B: Bus, const LOW: usize>(cpu: &mut Cpu, bus: &mut B)
     requires room { HasAccessesLeft 12 B.means bus.old }
-    requires digit { low < 16 }
-    ensures { IsWholeInstruction B.means (row_of (0xA0 + low)) cpu.old bus.old cpu.new bus.new }
+    requires digit { LOW < 16 }
+    ensures { (opcode : ℕ) → opcode ≡ 0xA0 + LOW → IsWholeInstruction B.means (row_of opcode) cpu.old bus.old cpu.new bus.new }
 {
-    instruction_of!(cpu, bus, 0xA0, low,
+    instruction_of!(cpu, bus, 0xA0, LOW,
         0x0 => PutFlag { mask: INTERRUPT, on: true },
         0x1 => TableCall,
         0x2 => BitInPlace(BitKind::Set),
@@ -263,12 +263,12 @@ fn from_a0<B: Bus>(cpu: &mut Cpu, bus: &mut B, low: u8)
 
 /// The opcodes 0xB0 to 0xBF.
 #[inline]
-fn from_b0<B: Bus>(cpu: &mut Cpu, bus: &mut B, low: u8)
+pub fn from_b0<B: Bus, const LOW: usize>(cpu: &mut Cpu, bus: &mut B)
     requires room { HasAccessesLeft 12 B.means bus.old }
-    requires digit { low < 16 }
-    ensures { IsWholeInstruction B.means (row_of (0xB0 + low)) cpu.old bus.old cpu.new bus.new }
+    requires digit { LOW < 16 }
+    ensures { (opcode : ℕ) → opcode ≡ 0xB0 + LOW → IsWholeInstruction B.means (row_of opcode) cpu.old bus.old cpu.new bus.new }
 {
-    instruction_of!(cpu, bus, 0xB0, low,
+    instruction_of!(cpu, bus, 0xB0, LOW,
         0x0 => BranchOnFlag { mask: CARRY, on: true },
         0x1 => TableCall,
         0x2 => BitInPlace(BitKind::Clear),
@@ -284,12 +284,12 @@ fn from_b0<B: Bus>(cpu: &mut Cpu, bus: &mut B, low: u8)
 
 /// The opcodes 0xC0 to 0xCF.
 #[inline]
-fn from_c0<B: Bus>(cpu: &mut Cpu, bus: &mut B, low: u8)
+pub fn from_c0<B: Bus, const LOW: usize>(cpu: &mut Cpu, bus: &mut B)
     requires room { HasAccessesLeft 12 B.means bus.old }
-    requires digit { low < 16 }
-    ensures { IsWholeInstruction B.means (row_of (0xC0 + low)) cpu.old bus.old cpu.new bus.new }
+    requires digit { LOW < 16 }
+    ensures { (opcode : ℕ) → opcode ≡ 0xC0 + LOW → IsWholeInstruction B.means (row_of opcode) cpu.old bus.old cpu.new bus.new }
 {
-    instruction_of!(cpu, bus, 0xC0, low,
+    instruction_of!(cpu, bus, 0xC0, LOW,
         0x0 => PutFlag { mask: INTERRUPT, on: false },
         0x1 => TableCall,
         0x2 => BitInPlace(BitKind::Set),
@@ -304,12 +304,12 @@ fn from_c0<B: Bus>(cpu: &mut Cpu, bus: &mut B, low: u8)
 
 /// The opcodes 0xD0 to 0xDF.
 #[inline]
-fn from_d0<B: Bus>(cpu: &mut Cpu, bus: &mut B, low: u8)
+pub fn from_d0<B: Bus, const LOW: usize>(cpu: &mut Cpu, bus: &mut B)
     requires room { HasAccessesLeft 12 B.means bus.old }
-    requires digit { low < 16 }
-    ensures { IsWholeInstruction B.means (row_of (0xD0 + low)) cpu.old bus.old cpu.new bus.new }
+    requires digit { LOW < 16 }
+    ensures { (opcode : ℕ) → opcode ≡ 0xD0 + LOW → IsWholeInstruction B.means (row_of opcode) cpu.old bus.old cpu.new bus.new }
 {
-    instruction_of!(cpu, bus, 0xD0, low,
+    instruction_of!(cpu, bus, 0xD0, LOW,
         0x0 => BranchOnFlag { mask: ZERO, on: false },
         0x1 => TableCall,
         0x2 => BitInPlace(BitKind::Clear),
@@ -324,12 +324,12 @@ fn from_d0<B: Bus>(cpu: &mut Cpu, bus: &mut B, low: u8)
 
 /// The opcodes 0xE0 to 0xEF.
 #[inline]
-fn from_e0<B: Bus>(cpu: &mut Cpu, bus: &mut B, low: u8)
+pub fn from_e0<B: Bus, const LOW: usize>(cpu: &mut Cpu, bus: &mut B)
     requires room { HasAccessesLeft 12 B.means bus.old }
-    requires digit { low < 16 }
-    ensures { IsWholeInstruction B.means (row_of (0xE0 + low)) cpu.old bus.old cpu.new bus.new }
+    requires digit { LOW < 16 }
+    ensures { (opcode : ℕ) → opcode ≡ 0xE0 + LOW → IsWholeInstruction B.means (row_of opcode) cpu.old bus.old cpu.new bus.new }
 {
-    instruction_of!(cpu, bus, 0xE0, low,
+    instruction_of!(cpu, bus, 0xE0, LOW,
         0x0 => ClearOverflow,
         0x1 => TableCall,
         0x2 => BitInPlace(BitKind::Set),
@@ -344,12 +344,12 @@ fn from_e0<B: Bus>(cpu: &mut Cpu, bus: &mut B, low: u8)
 
 /// The opcodes 0xF0 to 0xFF.
 #[inline]
-fn from_f0<B: Bus>(cpu: &mut Cpu, bus: &mut B, low: u8)
+pub fn from_f0<B: Bus, const LOW: usize>(cpu: &mut Cpu, bus: &mut B)
     requires room { HasAccessesLeft 12 B.means bus.old }
-    requires digit { low < 16 }
-    ensures { IsWholeInstruction B.means (row_of (0xF0 + low)) cpu.old bus.old cpu.new bus.new }
+    requires digit { LOW < 16 }
+    ensures { (opcode : ℕ) → opcode ≡ 0xF0 + LOW → IsWholeInstruction B.means (row_of opcode) cpu.old bus.old cpu.new bus.new }
 {
-    instruction_of!(cpu, bus, 0xF0, low,
+    instruction_of!(cpu, bus, 0xF0, LOW,
         0x0 => BranchOnFlag { mask: ZERO, on: true },
         0x1 => TableCall,
         0x2 => BitInPlace(BitKind::Clear),
@@ -359,30 +359,4 @@ fn from_f0<B: Bus>(cpu: &mut Cpu, bus: &mut B, low: u8)
         0xE => Dbnz,
         _ => halt(cpu, bus, 0xFF)
     )
-}
-
-/// The instruction of an opcode, once it was read, by the high digit of the opcode. The rest of its cycles passes.
-#[inline(always)]
-pub fn instruct<B: Bus>(cpu: &mut Cpu, bus: &mut B, op: u8)
-    requires room { HasAccessesLeft 12 B.means bus.old }
-    ensures { IsWholeInstruction B.means (row_of op) cpu.old bus.old cpu.new bus.new }
-{
-    match op / 16 {
-        0 => from_00(cpu, bus, op % 16),
-        1 => from_10(cpu, bus, op % 16),
-        2 => from_20(cpu, bus, op % 16),
-        3 => from_30(cpu, bus, op % 16),
-        4 => from_40(cpu, bus, op % 16),
-        5 => from_50(cpu, bus, op % 16),
-        6 => from_60(cpu, bus, op % 16),
-        7 => from_70(cpu, bus, op % 16),
-        8 => from_80(cpu, bus, op % 16),
-        9 => from_90(cpu, bus, op % 16),
-        10 => from_a0(cpu, bus, op % 16),
-        11 => from_b0(cpu, bus, op % 16),
-        12 => from_c0(cpu, bus, op % 16),
-        13 => from_d0(cpu, bus, op % 16),
-        14 => from_e0(cpu, bus, op % 16),
-        _ => from_f0(cpu, bus, op % 16),
-    }
 }

@@ -9,7 +9,7 @@ ghost use Rattle.spc700_exec.specs.Pieces.{HasAccessesLeft};
 
 use crate::bus::{Bus, CYCLES_PER_SAMPLE};
 use crate::cpu::Cpu;
-use crate::opcodes::instruct;
+use crate::instruct::instruct;
 use crate::operand::fetch;
 
 /// A step of a processor that isn't halted, by its outcome alone.
