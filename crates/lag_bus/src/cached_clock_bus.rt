@@ -142,7 +142,7 @@ impl<'a, B: DeferredBus> CachedClockBus<'a, B> {
 
     /// A step on the bus itself, which catches up first.
     #[inline(always)]
-    fn step_on_bus(&mut self, cpu: &mut Cpu)
+    fn step_on_bus(&mut self, cpu: &mut Cpu) -> bool
         requires few { self.old.samples ≤ max_frames }
         requires calls { self.old.bus.machine.calls ≤ max_calls_before_step }
         requires more { samples_due self.old.bus.machine < self.old.samples }
@@ -150,19 +150,22 @@ impl<'a, B: DeferredBus> CachedClockBus<'a, B> {
         ensures name { self.new.name ≡ self.old.name }
         ensures samples { self.new.samples ≡ self.old.samples }
         ensures some { self.old.bus.machine.clock < self.new.bus.machine.clock }
+        ensures answer { result ≡ cpu.new.halted }
     {
         let clock = self.until - self.left;
         *cpu = self.bus.step_later(clock, self.calls, *cpu);
         self.until = moment_of(&*self.bus, self.samples);
         self.left = self.until - self.bus.clock();
         self.calls = self.bus.calls();
+        cpu.halted
     }
 }
 
 /// One step, on the bus in hand or, close to the moment up to which the bus may be left behind, on the bus itself.
+/// The answer is whether the processor is halted now.
 // In line with the loop: where more cycles are left than an instruction has, the optimizer finds that none of its passes needs a test.
 #[inline(always)]
-fn step_once<'a, B: DeferredBus>(cpu: &mut Cpu, cached: &mut CachedClockBus<'a, B>)
+fn step_once<'a, B: DeferredBus>(cpu: &mut Cpu, cached: &mut CachedClockBus<'a, B>) -> bool
     requires few { cached.old.samples ≤ max_frames }
     requires calls { cached.old.bus.machine.calls ≤ max_calls_before_step }
     requires more { samples_due cached.old.bus.machine < cached.old.samples }
@@ -171,11 +174,12 @@ fn step_once<'a, B: DeferredBus>(cpu: &mut Cpu, cached: &mut CachedClockBus<'a, 
     ensures name { cached.new.name ≡ cached.old.name }
     ensures samples { cached.new.samples ≡ cached.old.samples }
     ensures some { cached.old.bus.machine.clock < cached.new.bus.machine.clock }
+    ensures answer { result ≡ cpu.new.halted }
 {
     if cached.may_fall_behind() {
-        step_awake(cpu, cached);
+        step_awake(cpu, cached)
     } else {
-        cached.step_on_bus(cpu);
+        cached.step_on_bus(cpu)
     }
 }
 
@@ -197,7 +201,7 @@ fn step_on<'a, B: DeferredBus>(
     ensures some { cached.old.bus.machine.clock < cached.new.bus.machine.clock }
 {
     if cpu.halted {
-        cached.step_on_bus(cpu);
+        let _ = cached.step_on_bus(cpu);
         return drain_budget;
     }
     let mut left = drain_budget;
@@ -205,9 +209,8 @@ fn step_on<'a, B: DeferredBus>(
         if cached.is_at_end() {
             break;
         }
-        step_once(cpu, cached);
         // Asked where an instruction ends, each of which has its own answer: so no step in hand asks whether the one before it halted.
-        if cpu.halted {
+        if step_once(cpu, cached) {
             break;
         }
         if !cached.has_room_for_step() {

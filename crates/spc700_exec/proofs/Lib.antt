@@ -11,3 +11,4 @@ pub mod Alike
 pub mod Counts
 pub mod Passed
 pub mod Whole
+pub mod Halted
