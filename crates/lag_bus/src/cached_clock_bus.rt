@@ -209,8 +209,9 @@ fn step_on<'a, B: DeferredBus>(
         if cached.is_at_end() {
             break;
         }
-        // Asked where an instruction ends, each of which has its own answer: so no step in hand asks whether the one before it halted.
-        if step_once(cpu, cached) {
+        // Each instruction has its own answer: so no step in hand asks whether the one before it halted.
+        let halted = step_once(cpu, cached);
+        if halted {
             break;
         }
         if !cached.has_room_for_step() {

@@ -1,4 +1,4 @@
-use Rattle.std.proofs.Common.{◌∙◌, ◌/◌, ◌<◌, refl, arith}
+use Rattle.std.proofs.Common.{sym, ◌∙◌, ◌/◌, ◌<◌, refl, arith}
 use Rattle.std.proofs.lemmas.Bool.Decides.{nat_tests}
 use Rattle.lock_step.proofs.StepsTaken.{no_steps, calls_anew}
 use Rattle.lag_bus.specs.Lagging.{lagging}
@@ -25,16 +25,16 @@ steps-preserved-then-not-has_room_for_step g c =
     let run = c.steps.invariant.samples in
     let due = c.if-is_at_end.ensures in
     let more : c.steps.cached.bus.machine.clock / CYCLES_PER_SAMPLE < c.steps.cached.samples = grind (arith, nat_tests) in
-    let taken = one_step_on chip c.args.cached.now.samples c.args.cpu.now c.args.cached.now.bus c.steps.cpu c.step_once.new.cpu c.steps.cached.bus c.step_once.new.cached.bus c.steps.invariant.taken (rw run at more) c.step_once.ensures.does in
-    let later = c.step_once.ensures.some in
+    let taken = one_step_on chip c.args.cached.now.samples c.args.cpu.now c.args.cached.now.bus c.steps.cpu c.step_once-halted.new.cpu c.steps.cached.bus c.step_once-halted.new.cached.bus c.steps.invariant.taken (rw run at more) c.step_once-halted.ensures.does in
+    let later = c.step_once-halted.ensures.some in
     let on = c.steps.invariant.on in
     rw c.if-not-begin_calls_anew.ensures.anew
     (record {
-      name = c.step_once.ensures.name ∙ c.steps.invariant.name;
-      samples = c.step_once.ensures.samples ∙ c.steps.invariant.samples;
-      taken = calls_anew (lagging chip) (lag_emits chip) c.args.cached.now.samples c.args.cpu.now c.args.cached.now.bus c.step_once.new.cpu c.step_once.new.cached.bus (without_calls c.step_once.new.cached.bus) taken refl refl refl;
+      name = c.step_once-halted.ensures.name ∙ c.steps.invariant.name;
+      samples = c.step_once-halted.ensures.samples ∙ c.steps.invariant.samples;
+      taken = calls_anew (lagging chip) (lag_emits chip) c.args.cached.now.samples c.args.cpu.now c.args.cached.now.bus c.step_once-halted.new.cpu c.step_once-halted.new.cached.bus (without_calls c.step_once-halted.new.cached.bus) taken refl refl refl;
       calls = omega arith;
-      awake = c.if-cpu-2.false;
+      awake = sym c.step_once-halted.ensures.answer ∙ c.if-halted.false;
       on = omega arith;
     })
 
@@ -45,14 +45,14 @@ steps-preserved g c =
     let due = c.if-is_at_end.ensures in
     let more : c.steps.cached.bus.machine.clock / CYCLES_PER_SAMPLE < c.steps.cached.samples = grind (arith, nat_tests) in
     let room = c.if-not-has_room_for_step.ensures in
-    let later = c.step_once.ensures.some in
+    let later = c.step_once-halted.ensures.some in
     let on = c.steps.invariant.on in
     record {
-      name = c.step_once.ensures.name ∙ c.steps.invariant.name;
-      samples = c.step_once.ensures.samples ∙ c.steps.invariant.samples;
-      taken = one_step_on chip c.args.cached.now.samples c.args.cpu.now c.args.cached.now.bus c.steps.cpu c.step_once.new.cpu c.steps.cached.bus c.step_once.new.cached.bus c.steps.invariant.taken (rw run at more) c.step_once.ensures.does;
+      name = c.step_once-halted.ensures.name ∙ c.steps.invariant.name;
+      samples = c.step_once-halted.ensures.samples ∙ c.steps.invariant.samples;
+      taken = one_step_on chip c.args.cached.now.samples c.args.cpu.now c.args.cached.now.bus c.steps.cpu c.step_once-halted.new.cpu c.steps.cached.bus c.step_once-halted.new.cached.bus c.steps.invariant.taken (rw run at more) c.step_once-halted.ensures.does;
       calls = grind (arith, nat_tests);
-      awake = c.if-cpu-2.false;
+      awake = sym c.step_once-halted.ensures.answer ∙ c.if-halted.false;
       on = omega arith;
     }
 
@@ -62,19 +62,19 @@ returns-then-cpu-clause-steps g c =
     one_step_on chip c.args.cached.now.samples c.args.cpu.now c.args.cached.now.bus c.args.cpu.now c.step_on_bus.new.cpu c.args.cached.now.bus c.step_on_bus.new.self.bus
     (no_steps (lagging chip) (lag_emits chip) c.args.cached.now.samples c.args.cpu.now c.args.cached.now.bus) c.requires.more c.step_on_bus.ensures.does
 
-pub returns-then-cpu-2-clause-steps : goal.returns-then-cpu-2-clause-steps
-returns-then-cpu-2-clause-steps g c =
+pub returns-then-halted-clause-steps : goal.returns-then-halted-clause-steps
+returns-then-halted-clause-steps g c =
     let run = c.steps.invariant.samples in
     let due = c.if-is_at_end.ensures in
     let more : c.steps.cached.bus.machine.clock / CYCLES_PER_SAMPLE < c.steps.cached.samples = grind (arith, nat_tests) in
-    one_step_on g.B.C.Chip.meaning c.args.cached.now.samples c.args.cpu.now c.args.cached.now.bus c.steps.cpu c.step_once.new.cpu c.steps.cached.bus c.step_once.new.cached.bus c.steps.invariant.taken (rw run at more) c.step_once.ensures.does
+    one_step_on g.B.C.Chip.meaning c.args.cached.now.samples c.args.cpu.now c.args.cached.now.bus c.steps.cpu c.step_once-halted.new.cpu c.steps.cached.bus c.step_once-halted.new.cached.bus c.steps.invariant.taken (rw run at more) c.step_once-halted.ensures.does
 
 pub returns-then-left-eq0-clause-steps : goal.returns-then-left-eq0-clause-steps
 returns-then-left-eq0-clause-steps g c =
     let run = c.steps.invariant.samples in
     let due = c.if-is_at_end.ensures in
     let more : c.steps.cached.bus.machine.clock / CYCLES_PER_SAMPLE < c.steps.cached.samples = grind (arith, nat_tests) in
-    one_step_on g.B.C.Chip.meaning c.args.cached.now.samples c.args.cpu.now c.args.cached.now.bus c.steps.cpu c.step_once.new.cpu c.steps.cached.bus c.step_once.new.cached.bus c.steps.invariant.taken (rw run at more) c.step_once.ensures.does
+    one_step_on g.B.C.Chip.meaning c.args.cached.now.samples c.args.cpu.now c.args.cached.now.bus c.steps.cpu c.step_once-halted.new.cpu c.steps.cached.bus c.step_once-halted.new.cached.bus c.steps.invariant.taken (rw run at more) c.step_once-halted.ensures.does
 
 pub returns-then-not-begin_calls_anew-clause-steps : goal.returns-then-not-begin_calls_anew-clause-steps
 returns-then-not-begin_calls_anew-clause-steps g c =
@@ -82,4 +82,4 @@ returns-then-not-begin_calls_anew-clause-steps g c =
     let due = c.if-is_at_end.ensures in
     let more : c.steps.cached.bus.machine.clock / CYCLES_PER_SAMPLE < c.steps.cached.samples = grind (arith, nat_tests) in
     rw c.if-not-begin_calls_anew.ensures.same
-    (one_step_on g.B.C.Chip.meaning c.args.cached.now.samples c.args.cpu.now c.args.cached.now.bus c.steps.cpu c.step_once.new.cpu c.steps.cached.bus c.step_once.new.cached.bus c.steps.invariant.taken (rw run at more) c.step_once.ensures.does)
+    (one_step_on g.B.C.Chip.meaning c.args.cached.now.samples c.args.cpu.now c.args.cached.now.bus c.steps.cpu c.step_once-halted.new.cpu c.steps.cached.bus c.step_once-halted.new.cached.bus c.steps.invariant.taken (rw run at more) c.step_once-halted.ensures.does)
