@@ -199,7 +199,7 @@ impl<C: Chip> DeferredChip<C> {
         ensures rest { self.new ≡ self.old }
         ensures reach { self.old.pending ≡ 0 → self.old.reach ≡ C.meaning.reach self.old.chip self.old.memory }
     {
-        if self.pending == 0 || self.known.is_unwritten(at) {
+        if self.pending == 0 || self.is_unwritten(at) {
             return false;
         }
         self.may_be_written(at)

@@ -171,7 +171,10 @@ impl ReachCache {
         requires { IsKnown C.written_pages (C.meaning.reach (C.state chip.now)) memory.now self.old }
         ensures { IsKeptThroughWrite C.written_pages (C.meaning.reach (C.state chip.now)) memory.now at self.new }
     {
-        if !self.has_reads || self.may_be_read(chip, memory, at) {
+        if !self.has_reads {
+            return;
+        }
+        if self.may_be_read(chip, memory, at) {
             self.drop_reads();
         }
     }
