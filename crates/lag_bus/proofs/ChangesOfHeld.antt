@@ -146,10 +146,10 @@ module _ {S : Type 0} {chip : ChipMeaning S} (laws : IsLawfulChip chip) where
     known_put pages at value known is_known any = elim (cases_Bool (may_be_read (chip.reach h.state h.memory) at)) [
       | inl read ↦ any read (with_byte h.memory at value)
       | inr unread ↦ record {
-          kept = is_known.kept;
-          window = is_known.window;
-          reads = subst (λ (reach : ReachPages). AreReadsKnown reach known) (sym (untouched h.state h.memory at value is.is_valid unread)) is_known.reads;
-        }
+        kept = is_known.kept;
+        window = is_known.window;
+        reads = subst (λ (reach : ReachPages). AreReadsKnown reach known) (sym (untouched h.state h.memory at value is.is_valid unread)) is_known.reads;
+      }
     ]
 
     -- one sample more that is pending

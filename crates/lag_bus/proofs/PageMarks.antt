@@ -1,5 +1,5 @@
 -- Marks of pages: none at first. And when two windows are one.
-use Rattle.std.proofs.Common.{◌≡◌, ℕ, ◌<◌, inl, inr, true, false, ◌&&◌, ◌==◌, None, replicate, slice_index_or, refl, arith}
+use Rattle.std.proofs.Common.{◌≡◌, ℕ, inl, inr, true, false, ◌&&◌, ◌==◌, None, replicate, slice_index_or, refl, arith}
 use Rattle.std.proofs.lemmas.Bool.{cases_lt, and_parts, eqb-true}
 use Rattle.std.proofs.lemmas.List.{get_or-replicate, get_or_past, length-replicate}
 use Rattle.aram_core.specs.declared.window.Window.{Window}
