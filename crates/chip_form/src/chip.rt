@@ -1,6 +1,8 @@
 // The sound chip that a bus is handed.
-ghost use Rattle.std.specs.Prelude.{◌≡◌, ℕ, ◌+◌, ◌*◌, ◌≤◌, ◌==◌, true, length, if◌then◌else◌};
+ghost use Rattle.std.specs.Prelude.{◌≡◌, ℕ, ◌+◌, ◌*◌, ◌≤◌, ◌==◌, List, true, length, if◌then◌else◌};
 ghost use Rattle.std.specs.FinSet as set;
+ghost use Rattle.aram_core.specs.Pages.{Pages};
+ghost use Rattle.aram_core.specs.declared.window.Window.{Window};
 ghost use Rattle.chip_form.specs.Samples.{samples, AddsSamples, count_after};
 ghost use Rattle.chip_form.specs.ChipMeaning.{ChipMeaning};
 ghost use Rattle.chip_form.specs.ChipSaving.{ChipSaving};
@@ -9,7 +11,7 @@ ghost use Rattle.chip_form.specs.SavingLaws.{IsLawfulSaving};
 ghost use Rattle.trace_form.specs.Capacities.{frame_capacity, record_capacity};
 ghost use Rattle.chip_form.specs.Limits.{max_samples_of_batch, max_samples_of_chip};
 
-use aram_core::Aram;
+use aram_core::{Aram, Window};
 use trace_form::{Frames, Records};
 
 /// A sound chip: registers, and samples over a memory. Nothing here makes a chip or copies one, so what a bus emits comes
@@ -38,6 +40,9 @@ pub trait Chip: Drop {
 
     /// And those by which they save and load.
     ghost saving: { ChipSaving Self.State Self.Saved };
+
+    /// The pages that samples can write, by the window that the chip names for them.
+    ghost written_pages: { Window → Pages };
 
     /// The register at an address. A bus asks for those from 00h to 7Fh alone.
     fn reg_read(&self, addr: u8) -> u8
@@ -77,6 +82,11 @@ pub trait Chip: Drop {
     /// Whether the next 64 samples can write bytes of a page.
     fn writes_page(&self, memory: &Aram, page: u8) -> bool
         ensures { result ≡ set.contains (meaning.reach (state self.now) memory.now).write_pages page };
+
+    /// The window in which the next 64 samples can write, whatever is in memory. As long as it is the same, so are the pages that
+    /// they can write.
+    fn written_window(&self) -> Window
+        ensures { (memory : List ℕ) → (meaning.reach (state self.now) memory).write_pages ≡ written_pages result };
 
     /// Whether they can read bytes of a page.
     fn reads_page(&self, memory: &Aram, page: u8) -> bool

@@ -1,11 +1,13 @@
 // The S-DSP as a chip. Each call only passes on its own, so that it is inlined.
 ghost use Rattle.std.specs.Prelude.{◌==◌};
+ghost use Rattle.std.specs.FinSet as set;
+ghost use Rattle.reach_map.specs.Reach.{window_pages};
 ghost use Rattle.dsp_core.specs.DspChip.{dsp_chip, dsp_saving};
 ghost use Rattle.dsp_core.specs.DspLaws.{dsp_is_lawful, dsp_saves_lawfully};
 
 use crate::dsp::Dsp;
 use crate::saved::DspState;
-use aram_core::Aram;
+use aram_core::{Aram, Window};
 use chip_form::Chip;
 use dsp_state::{ChipState, is_result};
 use trace_form::{Frames, Records};
@@ -26,6 +28,8 @@ impl Chip for Dsp {
     ghost meaning = { dsp_chip };
 
     ghost saving = { dsp_saving };
+
+    ghost written_pages = { λ window. set.from_list (window_pages window) };
 
     #[inline]
     fn reg_read(&self, addr: u8) -> u8 {
@@ -57,6 +61,11 @@ impl Chip for Dsp {
     #[inline]
     fn writes_page(&self, _memory: &Aram, page: u8) -> bool {
         self.writes_page(page)
+    }
+
+    #[inline]
+    fn written_window(&self) -> Window {
+        self.written_window()
     }
 
     #[inline]

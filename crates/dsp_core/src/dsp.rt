@@ -9,6 +9,7 @@ ghost use Rattle.dsp_state.specs.Settings.{settings_of};
 ghost use Rattle.dsp_state.specs.Outside.{opened_state, register_read, register_write};
 ghost use Rattle.dsp_state.specs.Valid.{is_valid};
 ghost use Rattle.dsp_state.specs.Reach.{chip_reach};
+ghost use Rattle.reach_map.specs.Reach.{window_pages};
 ghost use Rattle.batch_rows.specs.AddsFrames.{AddsFrames};
 ghost use Rattle.batch_rows.specs.Apart.{VoicesReadTheSame};
 ghost use Rattle.dsp_core.specs.Next.{next_sample, next_samples};
@@ -17,7 +18,7 @@ ghost use Rattle.dsp_core.specs.Saved.{saved_state, loaded_state};
 use crate::OutOfMemory;
 use crate::sample::make_sample;
 use crate::saved::DspState;
-use aram_core::Aram;
+use aram_core::{Aram, Window};
 use batch_rows::{
     BatchSamples, PlayedBatch, is_echo_apart, is_echo_surely_apart, play_batch, push_records,
     samples_apart,
@@ -375,6 +376,14 @@ impl Dsp {
         ensures { (memory : List ℕ) → result ≡ set.contains (chip_reach self.now.state memory).write_pages page }
     {
         self.state.writes_page(page)
+    }
+
+    /// The window whose pages they can write: one of no bytes while the echo doesn't write.
+    #[inline]
+    pub fn written_window(&self) -> Window
+        ensures { (memory : List ℕ) → (chip_reach self.now.state memory).write_pages ≡ set.from_list (window_pages result) }
+    {
+        self.state.written_window()
     }
 
     /// Whether they can read bytes of a page of a memory.

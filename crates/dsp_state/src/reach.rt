@@ -136,6 +136,19 @@ impl ChipState {
         has_echo_writes(self.registers[FLG]) && self.window_has_page(page)
     }
 
+    /// The window whose pages they can write: the echo's, or one of no bytes while the echo doesn't write.
+    #[inline]
+    #[tactic(auto, unfolding(crate::specs::Reach::chip_reach, reach_map::specs::Reach::reach))]
+    pub fn written_window(&self) -> Window
+        ensures { (memory : List ℕ) → (chip_reach self.now memory).write_pages ≡ set.from_list (window_pages result) }
+    {
+        if has_echo_writes(self.registers[FLG]) {
+            self.window()
+        } else {
+            Window { start: 0, len: 0 }
+        }
+    }
+
     /// Whether they can read bytes of a page of a memory: of the window, of an entry or of a chain.
     pub fn reads_page(&self, memory: &Aram, page: u8) -> bool
         ensures { result ≡ set.contains (chip_reach self.now memory.now).read_pages page }

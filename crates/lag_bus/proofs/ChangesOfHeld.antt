@@ -7,6 +7,8 @@ use Rattle.std.proofs.Math.Seq.{take-append_seam, drop-append_seam}
 use Rattle.std.proofs.lemmas.List.Elements.{filter-append}
 use Rattle.std.specs.List.{filter}
 use Rattle.aram_core.specs.Memory.{byte_at, with_byte}
+use Rattle.aram_core.specs.Pages.{Pages}
+use Rattle.aram_core.specs.declared.window.Window.{Window}
 use Rattle.trace_form.specs.declared.record.Record.{Record}
 use Rattle.trace_form.specs.declared.record.Record.TheVariants.{Reg, Port, Voice}
 use Rattle.chip_form.specs.Limits.{max_samples_of_chip}
@@ -20,7 +22,7 @@ use Rattle.lock_step.specs.SampleNumbers.{sample_number}
 use Rattle.lag_bus.specs.Ready.{is_before_sample, ready_frames, pending_frames, ready_records, pending_records, NoneIsReady}
 use Rattle.lag_bus.specs.Book.{may_be_read, may_be_written}
 use Rattle.lag_bus.specs.Deferred.{deferred_with_sample}
-use Rattle.lag_bus.specs.Held.{Held, IsHeld, IsKnown, pending_samples, deferred_of}
+use Rattle.lag_bus.specs.Held.{Held, IsHeld, IsKnown, AreReadsKnown, pending_samples, deferred_of}
 use Rattle.lag_bus.specs.declared.reach_cache.ReachCache.{ReachCache}
 use Rattle.chip_form.specs.declared.pages.ReachPages.{ReachPages}
 use Rattle.lag_bus.proofs.MergedRecords.{Each-append, Each-map, Each-filter, Each-merge, merge_voices, merge_event, merge_nothing, length-merge, number_before, later_before, event_after, voice_before, voice_after, voice_number, filter_all, filter_none}
@@ -138,12 +140,16 @@ module _ {S : Type 0} {chip : ChipMeaning S} (laws : IsLawfulChip chip) where
         }
 
     -- What was asked of the reach stays so over a byte that is put where they don't read, and so does what shows nothing.
-    pub known_put : (at value : ℕ) (known : ReachCache) → IsKnown (chip.reach h.state h.memory) known
-        → (may_be_read (chip.reach h.state h.memory) at ≡ true → (reach : ReachPages) → IsKnown reach known)
-        → IsKnown (chip.reach h.state (with_byte h.memory at value)) known
-    known_put at value known is_known any = elim (cases_Bool (may_be_read (chip.reach h.state h.memory) at)) [
-      | inl read ↦ any read (chip.reach h.state (with_byte h.memory at value))
-      | inr unread ↦ subst (λ (reach : ReachPages). IsKnown reach known) (sym (untouched h.state h.memory at value is.is_valid unread)) is_known
+    pub known_put : (pages : Window → Pages) (at value : ℕ) (known : ReachCache) → IsKnown pages (chip.reach h.state) h.memory known
+        → (may_be_read (chip.reach h.state h.memory) at ≡ true → (memory : List ℕ) → IsKnown pages (chip.reach h.state) memory known)
+        → IsKnown pages (chip.reach h.state) (with_byte h.memory at value) known
+    known_put pages at value known is_known any = elim (cases_Bool (may_be_read (chip.reach h.state h.memory) at)) [
+      | inl read ↦ any read (with_byte h.memory at value)
+      | inr unread ↦ record {
+        kept = is_known.kept;
+        window = is_known.window;
+        reads = subst (λ (reach : ReachPages). AreReadsKnown reach known) (sym (untouched h.state h.memory at value is.is_valid unread)) is_known.reads;
+      }
     ]
 
     -- one sample more that is pending

@@ -1,7 +1,9 @@
 -- What is held while samples are pending, and what it comes to once they are made.
-use Rattle.std.specs.Prelude.{◌≡◌, ◌⊎◌, ◌<◌, ◌≤◌, ℕ, ◌+◌, ◌*◌, List, [], ◌++◌, length, slice_index_or, true, false, ◌||◌, ◌==◌, if◌then◌else◌, None, IfSome}
+use Rattle.std.specs.Prelude.{◌≡◌, ◌<◌, ◌≤◌, ℕ, ◌+◌, ◌*◌, List, [], ◌++◌, length, slice_index_or, true, false, ◌||◌, ◌==◌, if◌then◌else◌, None, IfSome}
 use Rattle.std.specs.List.{filter}
 use Rattle.std.specs.FinSet as set
+use Rattle.aram_core.specs.Pages.{Pages}
+use Rattle.aram_core.specs.declared.window.Window.{Window}
 use Rattle.num_fix.specs.declared.Frame.{Frame}
 use Rattle.trace_form.specs.declared.record.Record.{Record}
 use Rattle.ports_timers.specs.Io.{is_within}
@@ -75,34 +77,35 @@ end_of_memory_alone page = if page == 0 then 0xF0 else 0xFFC0
 abbrev pub AreMarks : (IsOfKind : (page : ℕ) → Type 0) → (marks : List ℕ) → Type 0
 AreMarks IsOfKind marks = (page : ℕ) → 0 < slice_index_or marks page 0 → IsOfKind page × (slice_index_or marks page 0 ≤ end_of_memory_alone page)
 
--- what was asked of a reach, and not dropped, is so
-pub record IsKnown (reach : ReachPages) (known : ReachCache) : Type 0 where
+-- What holds of all that was kept, whatever the chip's state is: a page that is marked as unwritten isn't one of the window's, and
+-- where nothing of reads was kept there is no mark of an unread page.
+pub record IsKept (pages : Window → Pages) (known : ReachCache) : Type 0 where
+  pub unwritten : AreMarks (λ page. set.contains (pages known.window) page ≡ false) known.unwritten
+  pub none : known.has_reads ≡ false → (known.entangled ≡ None) × AreMarks (λ page. ⊥) known.unread
+
+-- what was asked of a reach beside the pages that samples write, and not dropped, is so
+pub record AreReadsKnown (reach : ReachPages) (known : ReachCache) : Type 0 where
   pub entangled : IfSome known.entangled (λ is_entangled. is_entangled ≡ reach.entangled)
-  -- samples to come don't write a page that is marked as unwritten
-  pub unwritten : AreMarks (λ page. set.contains reach.write_pages page ≡ false) known.unwritten
-  -- and they don't read one that is marked as unread, so that a write to it is nothing to them
+  -- samples to come don't read a page that is marked as unread, so that a write to it is nothing to them
   pub unread : AreMarks (λ page. (reach.entangled || set.contains reach.read_pages page) ≡ false) known.unread
-  -- where no more was kept than the marks of two pages as unwritten, there is no other
-  pub few : known.is_few ≡ true
-      → (known.entangled ≡ None) × AreMarks (λ page. (page ≡ known.page) ⊎ (page ≡ known.other)) known.unwritten × AreMarks (λ page. ⊥) known.unread
-  -- where nothing was kept there is no mark
-  pub none : known.is_any ≡ false → (known.entangled ≡ None) × AreMarks (λ page. ⊥) known.unwritten × AreMarks (λ page. ⊥) known.unread
 
--- A page becomes the one that is marked last, and the one that was so the other one. What is kept is the same, and of no more pages if it was of these two.
-pub record IsPutLast (old : ReachCache) (page : ℕ) (new : ReachCache) : Type 0 where
-  pub same : new ≡ record old { is_few = new.is_few; page = page; other = new.other }
-  pub few : new.is_few ≡ true → (old.is_few ≡ true)
-      × ((place : ℕ) → 0 < slice_index_or old.unwritten place 0 → (place ≡ old.page) ⊎ (place ≡ old.other) → (place ≡ page) ⊎ (place ≡ new.other))
+-- What was asked of the reach over a memory, and not dropped, is so. Whatever is in memory, samples write within the window.
+pub record IsKnown (pages : Window → Pages) (reach : List ℕ → ReachPages) (memory : List ℕ) (known : ReachCache) : Type 0 where
+  pub kept : IsKept pages known
+  pub window : (any : List ℕ) → (reach any).write_pages ≡ pages known.window
+  pub reads : AreReadsKnown (reach memory) known
 
--- what was asked of a reach is answered, and what is kept of it is so
-pub record IsAnswered {A : Type 0} (reach : ReachPages) (kept : ReachCache) (question : ReachPages → A) (result : A) : Type 0 where
-  pub answer : result ≡ question reach
-  pub known : IsKnown reach kept
+-- what was asked of the reach over a memory is answered, and what is kept of it is so
+pub record IsAnswered {A : Type 0} (pages : Window → Pages) (reach : List ℕ → ReachPages) (memory : List ℕ) (kept : ReachCache)
+    (question : ReachPages → A) (result : A) : Type 0 where
+  pub answer : result ≡ question (reach memory)
+  pub known : IsKnown pages reach memory kept
 
--- what is kept of a reach is so, and of any other reach too where samples may read the byte at an address: a write to it may change the reach
-pub record IsKeptThroughWrite (reach : ReachPages) (at : ℕ) (kept : ReachCache) : Type 0 where
-  pub known : IsKnown reach kept
-  pub any : may_be_read reach at ≡ true → (other : ReachPages) → IsKnown other kept
+-- What is kept of the reach over a memory is so, and over any other memory too where samples may read the byte at an address: a write to
+-- it may change the reach.
+pub record IsKeptThroughWrite (pages : Window → Pages) (reach : List ℕ → ReachPages) (memory : List ℕ) (at : ℕ) (kept : ReachCache) : Type 0 where
+  pub known : IsKnown pages reach memory kept
+  pub any : may_be_read (reach memory) at ≡ true → (other : List ℕ) → IsKnown pages reach other kept
 
 -- memory alone is at an address
 abbrev pub IsMemoryAlone : (at : ℕ) → Type 0

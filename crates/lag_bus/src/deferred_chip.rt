@@ -68,7 +68,7 @@ impl<C: Chip> Model for DeferredChip<C> {
       ring = b.ring;
       mask = b.mask;
       pending = b.pending;
-    }) × IsKnown (C.meaning.reach (C.state b.chip) b.memory) b.known };
+    }) × IsKnown C.written_pages (C.meaning.reach (C.state b.chip)) b.memory b.known };
 }
 
 /// Clears a list and moves another one into it. Mostly that one is empty.
@@ -199,7 +199,7 @@ impl<C: Chip> DeferredChip<C> {
         ensures rest { self.new ≡ self.old }
         ensures reach { self.old.pending ≡ 0 → self.old.reach ≡ C.meaning.reach self.old.chip self.old.memory }
     {
-        if self.pending == 0 || self.known.is_unwritten(at) {
+        if self.pending == 0 || self.is_unwritten(at) {
             return false;
         }
         self.may_be_written(at)
@@ -287,7 +287,7 @@ impl<C: Chip> DeferredChip<C> {
             self.new ≡ record self.old { chip = written; reach = C.meaning.reach written self.old.memory } }
     {
         self.chip.reg_write(address, value);
-        self.known.invalidate();
+        self.known.renew(&self.chip);
     }
 
     /// Emits the record of a write. While samples are pending it waits for them.
@@ -371,8 +371,7 @@ impl<C: Chip> DeferredChip<C> {
         );
         merge_into(&self.voices, &mut self.ring, &mut self.records);
         self.pending = 0;
-        self.known.invalidate();
-        self.known.mark_last(&self.chip, &self.memory);
+        self.known.renew(&self.chip);
     }
 
     /// Clears two lists and moves into them what was emitted before the first pending sample.
@@ -428,7 +427,7 @@ impl<C: Chip> DeferredChip<C> {
     {
         self.chip.load(saved);
         self.memory.copy_from(memory);
-        self.known = ReachCache::none();
+        self.known = ReachCache::none(&self.chip);
     }
 
     /// The samples that the chip made in all, those before a load too.
@@ -477,12 +476,13 @@ impl<C: Chip> DeferredChip<C> {
           records_used = 0;
         } }
     {
+        let known = ReachCache::none(&chip);
         DeferredChip {
             chip,
             memory,
             mask,
             pending: 0,
-            known: ReachCache::none(),
+            known,
             frames,
             records,
             voices,

@@ -7,7 +7,7 @@ use Rattle.lag_bus.proofs.deferred_chip.DeferredChip.new.Goals as goal
 pub invariant_of-result : goal.invariant_of-result
 invariant_of-result g c = (
   held_new g.C.Chip.meaning _ c.requires.is_valid c.requires.chip refl c.requires.frames c.requires.records c.requires.ring,
-  c.none.ensures _,
+  c.none-known.ensures _,
 )
 
 pub returns : goal.returns

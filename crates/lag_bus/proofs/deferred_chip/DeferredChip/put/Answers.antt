@@ -5,7 +5,7 @@ pub invariant_of-self : goal.invariant_of-self
 invariant_of-self g c = (
   held_put g.met.C.Chip.lawful c.self.invariant.0 c.put.new.self,
   rw c.put.ensures
-      (known_put g.met.C.Chip.lawful c.self.invariant.0 c.args.at c.args.value c.before_write.new.self c.before_write.ensures.known c.before_write.ensures.any),
+      (known_put g.met.C.Chip.lawful c.self.invariant.0 g.C.Chip.written_pages c.args.at c.args.value c.before_write.new.self c.before_write.ensures.known c.before_write.ensures.any),
 )
 
 pub returns-then-self-eq0-clause-memory : goal.returns-then-self-eq0-clause-memory

@@ -7,14 +7,14 @@ merge_into-requires g c =
     let few : length c.make_samples.new.voice_records ≤ 8 * c.self.inside.pending = rw c.make_samples.ensures.made.records_made (voices_fit g.met.C.Chip.lawful c.self.invariant.0) in
     omega (arith, c.self.invariant.0.records_fit)
 
-pub mark_last-requires : goal.mark_last-requires
-mark_last-requires g c = c.invalidate.ensures _ _ c.self.invariant.1
+pub renew-requires : goal.renew-requires
+renew-requires g c = c.self.invariant.1.kept
 
 pub invariant_of-self : goal.invariant_of-self
 invariant_of-self g c = (
   rw (c.make_samples.ensures.made.state_made, c.make_samples.ensures.sample, c.make_samples.ensures.made.memory_made, c.make_samples.ensures.made.frames_made, c.merge_into.ensures.ring, c.merge_into.ensures.records, c.make_samples.ensures.made.records_made)
       (held_settled g.met.C.Chip.lawful c.self.invariant.0 _ _),
-  c.mark_last.ensures,
+  c.renew.ensures _,
 )
 
 pub returns-clause-made : goal.returns-clause-made
