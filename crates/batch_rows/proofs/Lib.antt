@@ -6,6 +6,7 @@
 -- ResultsOfBatch: the results of a batch are those of its last sample, but for ENDX, and its key-ons are latched at its first poll.
 -- KeysApart: the keys and the noise of a batch, apart from each other; the keys change at its first two polls alone.
 -- PlayedLane: a voice over the rows of a batch makes the steps of its lane.
+-- Unmodulated: a voice that isn't modulated plays the same over any row of outputs of the voice before it.
 -- VoiceMore: one voice more of a batch, over any row of its outputs.
 -- Remains: the voices of a batch, one more of them played.
 -- AllSent: where all voices are sent to the echo at their own volumes, the main sums are those of what they send.
@@ -25,6 +26,7 @@ pub mod BoundingPages
 pub mod CellLine
 pub mod KeysApart
 pub mod PlayedLane
+pub mod Unmodulated
 pub mod VoiceMore
 pub mod Remains
 pub mod AllSent

@@ -1,9 +1,10 @@
 //! The voices of a batch, each over all its samples before the next.
 
-ghost use Rattle.std.specs.Prelude.{◌≡◌, ◌<◌, ◌≤◌, ◌+◌, ◌-◌, ◌^◌, ℕ, length, replicate, slice_index};
+ghost use Rattle.std.specs.Prelude.{◌≡◌, ◌<◌, ◌≤◌, ◌+◌, ◌-◌, ◌^◌, ℕ, length, pos, replicate, slice_index, true};
 ghost use Rattle.num_fix.specs.SignedWords.{number_at};
 ghost use Rattle.chip_form.specs.Limits.{max_samples_of_batch};
 ghost use Rattle.dsp_state.specs.declared.state.ChipState.{ChipState};
+ghost use Rattle.voice_unit.specs.Voice.{is_modulated};
 ghost use Rattle.batch_rows.specs.Reads.{AreReadsOf};
 ghost use Rattle.batch_rows.specs.PlayedBatch.{IsPlayedBatch};
 ghost use Rattle.batch_rows.specs.PlayedLane.{LaneMade, IsPlayedLane};
@@ -13,10 +14,11 @@ use crate::reads::BatchReads;
 use crate::sent::{all_unsent, are_all_sent, send_main};
 use crate::sums::{add_shares, clear_sums};
 use dsp_state::Volumes;
+use dsp_state::registers::PMON;
 use echo_unit::SumRows;
 use num_fix::BATCH_SIZE;
 use voice_batch::{PlayedRows, Workspace, play};
-use voice_unit::{UNHEARD, Voice, VoiceOut};
+use voice_unit::{UNHEARD, Voice, VoiceOut, is_modulated};
 
 /// What the voices make of a batch.
 #[derive(Clone, Copy)]
@@ -72,11 +74,23 @@ pub fn play_voice(
     play(voice, n, &own, previous, work, made)
 }
 
-/// Begins with no voice that has ended.
-fn clear_ends(ends: &mut [u8; BATCH_SIZE])
-    ensures { ends.new ≡ replicate BATCH_SIZE 0 }
+/// Begins with no voice that has ended, and with silence before the first.
+fn clear_rows(rows: &mut PlayedRows)
+    ensures outs { rows.new.outs ≡ replicate BATCH_SIZE (pos 0) }
+    ensures ends { rows.new.ends ≡ replicate BATCH_SIZE 0 }
 {
-    *ends = [0; BATCH_SIZE];
+    rows.outs = [0; BATCH_SIZE];
+    rows.ends = [0; BATCH_SIZE];
+}
+
+/// Takes the outputs of voice `v`, where they change the pitch of the next: only there they are read.
+fn take_previous(previous: &mut [i16; BATCH_SIZE], outs: &[i16; BATCH_SIZE], pmon: u8, v: u8)
+    requires { v < 8 }
+    ensures { v + 1 < 8 → is_modulated pmon (v + 1) ≡ true → previous.new ≡ outs.now }
+{
+    if v < 7 && is_modulated(pmon, v + 1) {
+        *previous = *outs;
+    }
 }
 
 /// Plays all voices over a batch of n samples, and adds each to the main sums and to what is sent.
@@ -96,7 +110,7 @@ fn play_each(
         IsPlayedBatch shared n volumes.now voices.old voices.new made.new.last made.new.rows.ends made.new.sums }
     ensures eight { length voices.old ≡ 8 }
 {
-    clear_ends(&mut made.rows.ends);
+    clear_rows(&mut made.rows);
     clear_sums(&mut made.sums);
     let mut previous = [0; BATCH_SIZE];
     for v in 0..8u8 {
@@ -113,7 +127,7 @@ fn play_each(
         let own = volumes[place];
         add_shares(&mut made.sums, &made.rows.outs, &own);
         made.last[place] = answer;
-        previous = made.rows.outs;
+        take_previous(&mut previous, &made.rows.outs, reads.registers[PMON], v);
     }
 }
 

@@ -68,6 +68,18 @@ impl Model for Dsp {
     ghost invariant = { IsDsp };
 }
 
+/// Reads again what samples read of the registers, where a register was written or a state was put back since. It stays where it is, so that
+/// samples read it there.
+fn renew(settings: &mut Settings, fresh: &mut bool, state: &ChipState)
+    requires { fresh.old ≡ true → settings.old ≡ settings_of state.now.registers state.now.muted }
+    ensures { settings.new ≡ settings_of state.now.registers state.now.muted }
+{
+    if !*fresh {
+        *settings = settings_of(&state.registers, state.muted);
+        *fresh = true;
+    }
+}
+
 impl Dsp {
     /// The chip with its registers as a file has them, 128 bytes, a table of weights and the muted voices, before its first sample;
     /// bit v of the muted voices is voice v.
@@ -135,29 +147,15 @@ impl Dsp {
         }
     }
 
-    /// What samples read of the registers. It is read again where a register was written or a state was put back.
-    fn read_settings(&mut self) -> Settings
-        ensures settings { result ≡ settings_of self.old.state.registers self.old.state.muted }
-        ensures chip { self.new ≡ self.old }
-    {
-        if !self.fresh {
-            self.settings = settings_of(&self.state.registers, self.state.muted);
-            self.fresh = true;
-        }
-        self.settings
-    }
-
     /// Makes the next sample, with the answers of its voices.
     fn make_one(
         &mut self,
-        settings: &Settings,
         memory: &mut Aram,
         mask: u8,
         frames: &mut Frames,
         records: &mut Records,
         answers: &mut [VoiceOut; 8],
     )
-        requires settings { settings.now ≡ settings_of self.old.state.registers self.old.state.muted }
         requires frame_capacity { length frames.old < frame_capacity }
         requires record_capacity { length records.old + 8 ≤ record_capacity }
         requires number { self.old.sample < max_samples_of_chip }
@@ -165,12 +163,13 @@ impl Dsp {
         ensures chip { self.new ≡ record self.old { state = self.new.state; sample = self.old.sample + 1 } }
         ensures record_count { length records.new ≤ length records.old + 8 }
     {
+        renew(&mut self.settings, &mut self.fresh, &self.state);
         self.clock.step();
         let frame = make_sample(
             &mut self.state,
             self.number,
             &self.clock,
-            settings,
+            &self.settings,
             memory,
             answers,
         );
@@ -183,13 +182,11 @@ impl Dsp {
     fn make_each(
         &mut self,
         n: u8,
-        settings: &Settings,
         memory: &mut Aram,
         mask: u8,
         frames: &mut Frames,
         records: &mut Records,
     )
-        requires settings { settings.now ≡ settings_of self.old.state.registers self.old.state.muted }
         requires frame_capacity { length frames.old + n ≤ frame_capacity }
         requires record_capacity { length records.old + 8 * n ≤ record_capacity }
         requires number { self.old.sample + n ≤ max_samples_of_chip }
@@ -198,13 +195,12 @@ impl Dsp {
     {
         let mut answers = [UNHEARD; 8];
         'samples: for _ in 0..n {
-            self.make_one(settings, memory, mask, frames, records, &mut answers);
+            self.make_one(memory, mask, frames, records, &mut answers);
         }
     }
 
     /// Makes the next n samples by rows, and adds their frames.
-    fn make_rows(&mut self, n: u8, settings: &Settings, memory: &mut Aram, frames: &mut Frames)
-        requires settings { settings.now ≡ settings_of self.old.state.registers self.old.state.muted }
+    fn make_rows(&mut self, n: u8, memory: &mut Aram, frames: &mut Frames)
         requires some { 0 < n }
         requires few { n ≤ max_samples_of_batch }
         requires frame_capacity { length frames.old + n ≤ frame_capacity }
@@ -213,11 +209,12 @@ impl Dsp {
         ensures made { AddsFrames (next_samples n self.old memory.old) self.new.state memory.new frames.old frames.new }
         ensures chip { self.new ≡ record self.old { state = self.new.state; sample = self.old.sample + n } }
     {
+        renew(&mut self.settings, &mut self.fresh, &self.state);
         let samples = BatchSamples::after(&self.clock, self.number, n);
         play_batch(
             &mut self.state,
             &samples,
-            settings,
+            &self.settings,
             memory,
             &mut self.work,
             &mut self.made,
@@ -255,13 +252,11 @@ impl Dsp {
     fn make_some(
         &mut self,
         n: u8,
-        settings: &Settings,
         memory: &mut Aram,
         mask: u8,
         frames: &mut Frames,
         records: &mut Records,
     ) -> u8
-        requires settings { settings.now ≡ settings_of self.old.state.registers self.old.state.muted }
         requires some { 0 < n }
         requires few { n ≤ max_samples_of_batch }
         requires frame_capacity { length frames.old + n ≤ frame_capacity }
@@ -276,12 +271,12 @@ impl Dsp {
         if mask == 0 {
             let rows = self.samples_by_rows(n, memory);
             if rows > 0 {
-                self.make_rows(rows, settings, memory, frames);
+                self.make_rows(rows, memory, frames);
                 return rows;
             }
         }
         let few = n.min(ONE_BY_ONE);
-        self.make_each(few, settings, memory, mask, frames, records);
+        self.make_each(few, memory, mask, frames, records);
         few
     }
 
@@ -309,10 +304,9 @@ impl Dsp {
             return;
         }
         self.batches = self.batches.saturating_add(1);
-        let settings = self.read_settings();
         let mut made = 0;
         'samples: while made < n {
-            made += self.make_some(n - made, &settings, memory, mask, frames, records);
+            made += self.make_some(n - made, memory, mask, frames, records);
         }
     }
 

@@ -1,8 +1,8 @@
-use Rattle.std.proofs.Common.{rules, refl, sym, arith, append_assoc}
+use Rattle.std.proofs.Common.{refl, sym, arith, append_assoc}
 use Rattle.std.proofs.lemmas.List.{append-nil}
 use Rattle.std.proofs.lemmas.List.Elements.{filter-append}
 use Rattle.chip_form.proofs.OneMoreSample.{samples_none}
-use Rattle.dsp_core.proofs.Batches.{samples_after, settings_of-samples, frames_fit, records_fit}
+use Rattle.dsp_core.proofs.Batches.{samples_after, frames_fit, records_fit}
 use Rattle.dsp_core.proofs.dsp.Dsp.advance.Goals as goal
 
 pub returns-then-n-eq0-clause-made : goal.returns-then-n-eq0-clause-made
@@ -18,7 +18,6 @@ samples-init c = record {
   most = omega arith;
   state = rw samples_none refl;
   sample = omega arith;
-  settings = search rules;
   batches = refl;
   total = refl;
   memory = rw samples_none refl;
@@ -31,7 +30,6 @@ samples-preserved c = record {
   most = omega (arith, c.make_some-made.ensures.few);
   state = rw (samples_after, c.make_some-made.ensures.made.state_made, c.samples.invariant.state, c.samples.invariant.memory, c.samples.invariant.sample) refl;
   sample = rw (c.make_some-made.ensures.chip) (omega (arith, c.samples.invariant.sample));
-  settings = rw (c.make_some-made.ensures.made.state_made, settings_of-samples) c.samples.invariant.settings;
   batches = rw (c.make_some-made.ensures.chip) c.samples.invariant.batches;
   total = rw (c.make_some-made.ensures.chip) c.samples.invariant.total;
   memory = rw (samples_after, c.make_some-made.ensures.made.memory_made, c.samples.invariant.state, c.samples.invariant.memory, c.samples.invariant.sample) refl;
@@ -44,4 +42,4 @@ make_some-made-requires-clause-frame_capacity c = frames_fit _ _ c.args.n c.samp
 
 pub make_some-made-requires-clause-record_capacity : goal.make_some-made-requires-clause-record_capacity
 make_some-made-requires-clause-record_capacity c =
-    records_fit _ _ c.args.mask c.args.n c.samples.made _ _ _ (rw c.read_settings-settings.ensures.chip c.self.invariant.valid) c.samples.invariant.records c.requires.record_capacity c.samples-test.true
+    records_fit _ _ c.args.mask c.args.n c.samples.made _ _ _ c.self.invariant.valid c.samples.invariant.records c.requires.record_capacity c.samples-test.true

@@ -1,7 +1,6 @@
-use Rattle.std.proofs.Common.{rules, refl, sym, arith, append_assoc, length-append}
+use Rattle.std.proofs.Common.{refl, sym, arith, append_assoc, length-append}
 use Rattle.std.proofs.lemmas.List.{append-nil}
 use Rattle.std.proofs.lemmas.List.Elements.{filter-append}
-use Rattle.dsp_state.proofs.ReadOnce.{settings_of-sample}
 use Rattle.chip_form.proofs.OneMoreSample.{samples_none, samples_more}
 use Rattle.dsp_core.proofs.dsp.Dsp.make_each.Goals as goal
 
@@ -9,7 +8,6 @@ pub samples-init : goal.samples-init
 samples-init c = record {
   state = rw samples_none refl;
   sample = omega arith;
-  settings = search rules;
   batches = refl;
   total = refl;
   memory = rw samples_none refl;
@@ -23,7 +21,6 @@ pub samples-preserved : goal.samples-preserved
 samples-preserved c = record {
   state = rw (samples_more, c.make_one.ensures.made.state_made, c.samples.invariant.state, c.samples.invariant.memory, c.samples.invariant.sample) refl;
   sample = rw (c.make_one.ensures.chip) (omega (arith, c.samples.invariant.sample));
-  settings = rw (c.make_one.ensures.made.state_made, settings_of-sample) c.samples.invariant.settings;
   batches = rw (c.make_one.ensures.chip) c.samples.invariant.batches;
   total = rw (c.make_one.ensures.chip) c.samples.invariant.total;
   memory = rw (samples_more, c.make_one.ensures.made.memory_made, c.samples.invariant.state, c.samples.invariant.memory, c.samples.invariant.sample) refl;

@@ -2,7 +2,6 @@ use Rattle.std.proofs.Common.{◌≡◌, ◌+◌, ◌*◌, ◌≤◌, ◌++◌, 
 use Rattle.std.specs.List.{filter}
 use Rattle.chip_form.specs.Samples.{samples, in_mask}
 use Rattle.dsp_state.specs.Sample.{sample}
-use Rattle.dsp_state.specs.Settings.{settings_of}
 use Rattle.dsp_core.proofs.dsp.Dsp.make_each.Given as goal
 
 abbrev pub invariant-samples : goal.invariant-samples
@@ -11,7 +10,6 @@ invariant-samples l =
     record {
       state : l.self.state ≡ done.state;
       sample : l.self.sample ≡ l.initial.self.sample + l.counter;
-      settings : l.settings ≡ settings_of l.self.state.registers l.self.state.muted;
       batches : l.self.batches ≡ l.initial.self.batches;
       total : l.self.total ≡ l.initial.self.total;
       memory : l.memory ≡ done.memory;

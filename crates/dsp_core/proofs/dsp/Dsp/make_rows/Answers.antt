@@ -13,7 +13,7 @@ invariant_of-self c =
     record {
       clock = rw c.from.ensures (c.after_samples-self-inside.ensures.after c.self.inside.number c.self.invariant.clock);
       valid = rw (made, by) (is_valid-samples c.args.n c.self.inside.number s c.args.memory.now c.self.invariant.valid);
-      settings = λ fresh. rw (made, by) (c.self.invariant.settings fresh ∙ sym (settings_of-samples c.args.n c.self.inside.number s c.args.memory.now));
+      settings = λ fresh. rw (made, by) (c.renew.ensures ∙ sym (settings_of-samples c.args.n c.self.inside.number s c.args.memory.now));
     }
 
 pub returns-clause-made : goal.returns-clause-made
