@@ -7,7 +7,7 @@ ghost use Rattle.brr_decode.specs.CachedBlocks.{byte_of};
 ghost use Rattle.voice_batch.specs.Row.{IsGroup, groups_left, further, kept_row, place_of};
 
 use aram_core::Aram;
-use brr_decode::{BrrCache, has_end};
+use brr_decode::{BrrCache, next_block};
 use num_fix::BATCH_SIZE;
 use voice_unit::Voice;
 
@@ -170,10 +170,6 @@ impl Headed {
     pub(crate) fn next_block(&self, loop_word: u16) -> u16
         ensures { result ≡ next_block self.now.header self.now.block loop_word }
     {
-        if has_end(self.header) {
-            loop_word
-        } else {
-            self.block.wrapping_add(9)
-        }
+        next_block(self.header, self.block, loop_word)
     }
 }

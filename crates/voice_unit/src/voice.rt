@@ -8,7 +8,7 @@ use crate::directory::{loop_word, start_word};
 use crate::interface::{VoiceIn, VoiceOut, VoiceRegs, is_keyed, is_silencing};
 use crate::level::{at_level, high_byte, pitch_of};
 use aram_core::Aram;
-use brr_decode::{decode_group, has_end};
+use brr_decode::{block_after, decode_group, has_end};
 use envelope::Envelope;
 use gauss_table::GaussTable;
 use num_fix::{clear_bit0, wrap16};
@@ -282,7 +282,7 @@ impl Voice {
         if has_end(header) {
             self.block = loop_word(dir, srcn, memory);
         } else {
-            self.block = self.block.wrapping_add(9);
+            self.block = block_after(self.block);
         }
     }
 
