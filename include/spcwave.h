@@ -111,7 +111,7 @@ typedef struct spcwave_info {
     uint32_t size;                      /* sizeof(spcwave_info) */
     uint32_t frames, fade;              /* as spcwave_length gives them */
     bool tagged;                        /* as spcwave_tagged gives it */
-    bool timed;                         /* whether the tags give a length; else three minutes stand in for it */
+    bool timed;                         /* whether the tags give a length; else three minutes are assumed */
     spcwave_text tags[SPCWAVE_TAGS];    /* by enum spcwave_tags */
 } spcwave_info;
 

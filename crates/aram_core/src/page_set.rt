@@ -80,7 +80,7 @@ impl PageSet {
         }
     }
 
-    /// The pages of the set that are none of another one's.
+    /// The pages of the set that are not in another one.
     fn without(&self, other: &PageSet) -> PageSet
         ensures { result ≡ set.difference self.now other.now }
     {

@@ -140,8 +140,9 @@ impl BrrCache {
         &self.blocks[place]
     }
 
-    /// Puts the rest of a block, from one of its groups on, after `len` kept samples of a row. It is decoded unless it is cached. Sixteen numbers
-    /// are put, so that they are copied at once, by way of a place of their own, which lies apart from both rows; those after the block are of no account.
+    /// Copies the samples of a block, from one of its groups on, to a row, after its first `len` kept samples. The block is decoded unless it is cached.
+    /// Always sixteen numbers are copied, so that the length is a constant, and through a local buffer, which overlaps neither row. What comes after
+    /// the block's own samples is ignored.
     #[inline(always)]
     pub fn read_rest(
         &mut self,

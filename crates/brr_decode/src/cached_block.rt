@@ -10,7 +10,7 @@ pub(crate) struct CachedBlock {
     pub header: u8,
     /// The first of its groups that was decoded.
     pub from: u8,
-    /// The two samples before the block, its sixteen, and room, so that sixteen numbers stand from each group on.
+    /// The two samples before the block, its sixteen, and padding, so that sixteen numbers can be copied from each group on.
     pub row: [i16; 32],
     ghost is_block: { IsBlockOf header digits from row },
 }

@@ -10,7 +10,7 @@ use thiserror::Error;
 /// Why a stream was not decoded.
 #[derive(Clone, Copy, Debug, PartialEq, Eq, Error)]
 pub enum BrrRefusal {
-    /// This number of bytes is none of 1 to 7,281 blocks.
+    /// This number of bytes isn't that of 1 to 7,281 blocks.
     #[error("{0} bytes are no blocks")]
     Length(usize),
     /// There is no memory.

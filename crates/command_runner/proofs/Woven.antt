@@ -96,7 +96,7 @@ woven_second n m ys other calls writes = record {
   joined = (none_to m n (λ same. other (sym same)) calls writes.each, (to_all m calls writes.each ∙ writes.joined, tt));
 }
 
--- The trace's bytes are of no account where there is none.
+-- The trace's bytes don't matter where there is no trace.
 pub woven_alone : (n : ℕ) (xs ys : List ℕ) → (calls : List Call) → AreWrites n xs calls → AreWoven (both n None xs ys) calls
 woven_alone n xs ys calls writes = woven_first n None xs tt calls writes
 

@@ -45,7 +45,7 @@ held_by files inputs = map (λ input. files input.name) inputs
 abbrev pub held_of : (given : List (List ℕ)) → Held
 held_of given = map (λ bytes. Some bytes) given
 
--- Inputs are opened and read one after another, each once, to its end or to its limit and one byte, up to the first that is refused. These are
+-- Inputs are opened and read one after another, each once, to its end or to one byte past its limit, up to the first that is refused. These are
 -- the bytes that they gave.
 abbrev pub TakesInOrder : List NamedInput → (given : List (List ℕ)) → List Call → Type 0
 TakesInOrder [] given calls = (given ≡ []) × NoCalls calls

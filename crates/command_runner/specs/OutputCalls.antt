@@ -6,7 +6,7 @@ use Rattle.snd_host.specs.Follows.{AreWrites}
 use Rattle.snd_host.specs.Host.{Output}
 use Rattle.command_runner.specs.InOrder.{Then, NoCalls}
 
--- A number of an output, and bytes for it.
+-- The number of an output, and the bytes that it gets.
 abbrev pub Target : Type 0
 Target = ℕ × List ℕ
 
@@ -31,7 +31,7 @@ bytes_to file [] = []
 bytes_to file (wrote f bytes ∷ calls) = if f == file then bytes ++ bytes_to file calls else bytes_to file calls
 bytes_to file (call ∷ calls) = bytes_to file calls
 
--- Writes to the outputs of these numbers, none of them of no bytes, in any order between the outputs, that join to these bytes for each.
+-- Interleaved writes: each is to one of these outputs and not empty, and those to each output join to its bytes.
 pub record AreWoven (targets : List Target) (calls : List Call) : Type 0 where
   pub each : AllByRecursion (IsWriteTo targets) calls
   pub joined : AllByRecursion (λ target. bytes_to target.0 calls ≡ target.1) targets

@@ -23,7 +23,8 @@ pub record IsServing {S V : Type 0} (chip : ChipMeaning S) (saving : ChipSaving 
   pub handed_over : HasHandedOver render
   pub counted : made ≡ render.bus.chip_total
 
--- A render is on the way to the same length and machine. Its chip made as many samples as the number of its next one rose by.
+-- A render that was continued: it still leads to the same machine at the same length, and the count of all samples that its chip made rose by as much
+-- as the number of its next sample.
 pub record IsUnderway {S : Type 0} (chip : ChipMeaning S) (old new : RenderState S) : Type 0 where
   pub samples : new.samples ≡ old.samples
   pub whole : whole_at_length chip new ≡ whole_at_length chip old

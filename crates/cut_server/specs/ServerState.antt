@@ -15,7 +15,7 @@ pub record Standing (W : Type 0) : Type 0 where
 
 pub record ServerState (W V : Type 0) : Type 0 where
   pub standing : Standing W
-  -- the samples that the chip in hand made in all
+  -- the samples that the current chip made in all
   pub made : ℕ
   pub table : TableState V
 

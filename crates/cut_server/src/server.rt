@@ -124,7 +124,7 @@ impl<C: Chip> CutServer<C> {
         self.render.total()
     }
 
-    /// The chip in hand. It made the samples that `work` returns, its next sample is that at the position, and its state is that of the run's
+    /// The current chip. It made the samples that `work` returns, its next sample is that at the position, and its state is that of the run's
     /// chip there.
     pub fn chip(&self) -> &C
         ensures made { C.total result.now ≡ (book_of self.now).made }
@@ -141,7 +141,7 @@ impl<C: Chip> CutServer<C> {
         self.table.first().chip()
     }
 
-    /// Begins anew over another chip at the opening, of which this was saved before its sample 0: what is fixed of the chip in hand stays, and
+    /// Begins anew over another chip at the opening, of which this was saved before its sample 0: what is fixed of the current chip stays, and
     /// all else of the opening. It stands at sample 0, with one checkpoint, and made nothing for it.
     pub fn restart(&mut self, chip: C::Saved)
         requires { C.saving.number chip ≡ 0 }

@@ -1,4 +1,4 @@
--- What a host of real files is at a moment, which of its disk's files it has in hand, what it asked of its disk, and which bytes its files are known to
+-- What a host of real files is at a moment, which of its disk's files are its input and its outputs, what it asked of its disk, and which bytes its files are known to
 -- hold. A file that doesn't know its bytes has None.
 use Rattle.std.specs.Prelude.{◌≡◌, ◌≢◌, ℕ, List, ◌∷◌, Option, None, Result, IsErr}
 use Rattle.std.specs.Io.KnownBytes.{Keeps, ReadConsumes, WriteAppends}

@@ -95,7 +95,7 @@ with_word memory address word =
 unfoldable pub with_cell : (memory : List ℕ) → (address : ℕ) → (left right : ℤ) → List ℕ
 with_cell memory address left right = with_word (with_word memory address left) ((address + 2) % 0x10000) right
 
--- the length of the buffer that a step goes by: EDL counts at the first cell
+-- the length of the buffer that a step uses: EDL is read at the first cell only
 abbrev pub length_in_force : (edl : ℕ) → EchoState → ℕ
 length_in_force edl s = if s.offset == 0 then echo_length edl else s.length
 

@@ -22,7 +22,7 @@ use std::marker::Model;
 /// The bytes of the buffer that one step of EDL adds.
 const LENGTH_UNIT: u16 = 2048;
 
-/// The fewest samples for which rows pay.
+/// The fewest samples for which rendering by rows is faster than step by step.
 const MIN_OF_ROWS: u8 = 16;
 
 /// The echo between two steps.
@@ -144,7 +144,7 @@ impl Echo {
         put_history(&self.history, left, right);
     }
 
-    /// The length of the buffer that a step from here goes by.
+    /// The length of the buffer that the next step uses.
     fn length_in_force(&self, edl: u8) -> u16
         ensures value { result ≡ length_in_force edl self.now }
         ensures most { result ≤ 15 * 0x800 }
@@ -272,8 +272,8 @@ impl Echo {
         frames
     }
 
-    /// The steps of n samples, at most 64, over the rows of the main sums and of what is sent to the echo. The answer's first n frames
-    /// are those of the samples. A batch of a few samples, and one that writes the only cell of a buffer of no length, is made step by step.
+    /// The steps of n samples, at most 64, over the rows of the main sums and of what is sent to the echo. The first n frames of the
+    /// result are those of the samples. A batch of few samples is made step by step, and so is one that writes to a buffer of a single cell (EDL 0).
     pub fn play(
         &mut self,
         n: u8,

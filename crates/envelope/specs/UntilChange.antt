@@ -1,4 +1,4 @@
--- Envelopes at rest.
+-- How many samples an envelope stays as it is.
 use Rattle.std.specs.Prelude.{◌≡◌, ◌≢◌, ℕ, ◌+◌, ◌<◌}
 use Rattle.rate_clock.specs.Counter.{counter_at}
 use Rattle.envelope.specs.Envelope.{EnvelopeState, envelope_step}
@@ -11,6 +11,6 @@ StaysFor e adsr1 adsr2 gain k samples = (j : ℕ) → j < samples → envelope_s
 abbrev pub ChangesAt : EnvelopeState → (adsr1 adsr2 gain k : ℕ) → Type 0
 ChangesAt e adsr1 adsr2 gain k = envelope_step e adsr1 adsr2 gain (counter_at k) ≢ e
 
--- the most samples of rest that are reported: a rest that never ends is reported as so many
+-- the greatest number of samples that is reported; also the answer where the envelope never changes
 abbrev pub never_changes : ℕ
 never_changes = 65535

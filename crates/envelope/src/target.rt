@@ -1,4 +1,4 @@
-//! What a step aims at: the new value of the level, and the rate that decides whether it is taken.
+//! What a step aims at: the new value of the level, and the rate. The level is set to the value in samples in which the rate fires.
 
 ghost use Rattle.std.specs.Prelude.{◌≡◌, ◌<◌, ◌≤◌, IfSome};
 ghost use Rattle.envelope.specs.Envelope.{exponential_fall, attack_target, decay_target, sustain_target, slope_value, gain_target, step_target, sustain_level};

@@ -60,7 +60,7 @@ registers-after_poll : (s : ChipState) (k : ℕ) → (after_poll s k).registers 
 unfolding after_noise
 registers-after_poll s k = registers-before_voices s k
 
--- the noise goes by its rate
+-- of the registers the noise depends on FLG alone
 noise_with : (s : ChipState) (counter : ℕ) (registers : List ℕ) → slice_index registers FLG ≡ slice_index s.registers FLG
     → after_noise (with_registers s registers) counter ≡ with_registers (after_noise s counter) registers
 unfolding after_noise

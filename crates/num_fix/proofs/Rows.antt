@@ -1,4 +1,4 @@
--- The limits as worked numbers.
+-- The limits as products of familiar numbers.
 use Rattle.std.specs.Prelude.{◌≡◌, ◌*◌}
 use Rattle.std.proofs.Common.{refl}
 use Rattle.num_fix.specs.Limits.{max_frames, max_sample_number, max_input}

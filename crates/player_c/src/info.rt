@@ -23,7 +23,7 @@ pub struct SpcwaveInfo {
     pub fade: u32,
     /// 1 where the file says that it has tags, else 0.
     pub tagged: u8,
-    /// 1 where the tags give the length, 0 where three minutes stand in for it.
+    /// 1 where the tags give the length, 0 where three minutes are assumed.
     pub timed: u8,
     /// Where the texts of the tags stand in the bytes, by the tags' numbers.
     pub tags: [TextPlace; 8],

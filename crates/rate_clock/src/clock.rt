@@ -106,11 +106,11 @@ impl RateClock {
         ensures at { (k : ℕ) → self.now ≡ counter_at k → result ≡ counter_at (k + samples) }
         ensures after { (n : ℕ) → self.now ≡ counter_after n → result ≡ counter_after (n + samples) }
     {
-        let way = u16::from(samples);
-        let counter = if self.counter < way {
-            self.counter + COUNTER_RANGE - way
+        let elapsed = u16::from(samples);
+        let counter = if self.counter < elapsed {
+            self.counter + COUNTER_RANGE - elapsed
         } else {
-            self.counter - way
+            self.counter - elapsed
         };
         RateClock {
             counter,

@@ -196,21 +196,21 @@ impl<C: Chip> Render<C> {
         self.samples = samples;
     }
 
-    /// The numbers of the chip in hand are those of the book.
+    /// The numbers of the current chip are those of the book.
     pub fn matches_its_book(&self)
         ensures { MatchesBook self.now.bus }
     {
         self.bus.matches_its_book();
     }
 
-    /// The samples that the chip in hand made in all, those before a load too. It stays at its type's end.
+    /// The samples that the current chip made in all, those before a load too. It stays at its type's end.
     pub fn total(&self) -> u64
         ensures { result ≡ self.now.bus.chip_total }
     {
         self.bus.total()
     }
 
-    /// The chip in hand. It made the batches and samples that are counted, and its next sample is the first one pending. At the length
+    /// The current chip. It made the batches and samples that are counted, and its next sample is the first one pending. At the length
     /// it is that of the machine.
     pub fn chip(&self) -> &C
         ensures batches { C.batches result.now ≡ self.now.bus.chip_batches }
@@ -223,7 +223,7 @@ impl<C: Chip> Render<C> {
         self.bus.chip()
     }
 
-    /// How often the chip ran so far, and why. The chip in hand, which `chip` gives, made these batches, and all samples but
+    /// How often the chip ran so far, and why. The current chip, which `chip` gives, made these batches, and all samples but
     /// those pending.
     pub fn counts(&self) -> Counts
         ensures counts { result ≡ self.now.bus.book.counts }

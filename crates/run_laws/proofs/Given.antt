@@ -1,5 +1,5 @@
 -- What is answered by what the inputs gave is what is answered by what their names hold: each input gave the front of what its name holds, up to its
--- limit and one byte, and the answer goes by no more of it.
+-- limit and one byte, and the answer depends on no more of it.
 use Rattle.std.proofs.Common.{◌≡◌, ℕ, Bool, true, false, List, [], ◌∷◌, Some, refl, sym, ap, ◌∙◌, subst, if◌then◌else◌}
 use Rattle.snd_host.specs.Calls.{Call}
 use Rattle.snd_host.specs.Host.{Files}

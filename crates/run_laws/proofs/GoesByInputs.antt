@@ -1,4 +1,4 @@
--- What a command answers goes by its inputs: each is taken up to its limit, of a longer one one byte more is enough to refuse it, and the answer is
+-- What a command answers depends on its inputs alone: each is taken up to its limit, of a longer one one byte more is enough to refuse it, and the answer is
 -- that of the first refusal. So it is of one that is read alone, and of one that others are read after.
 use Rattle.std.proofs.Common.{◌≡◌, inl, inr, ℕ, ◌+◌, Bool, true, false, List, [], ◌∷◌, Some, None, length, take, refl, sym, ap, ◌∙◌, arith, if◌then◌else◌, length-take}
 use Rattle.std.specs.Prelude.{Option, Result, Ok, Err, ℤ, is_ok, nat_lt}
@@ -28,7 +28,7 @@ use Rattle.command_serve.specs.Scripts.{script_of}
 use Rattle.run_laws.specs.Answers.{answer_by, inputs_of}
 use Rattle.run_laws.specs.GoesBy.{GoesBy}
 
--- What an input gives goes by no more of it than its limit and one byte.
+-- What an input gives depends on no more of it than its limit and one byte.
 abbrev pub IsLimited : {T C : Type 0} → (limit : ℕ) → (given : Option (List ℕ) → Result T (Refusal C)) → Type 0
 IsLimited limit given = (bytes : List ℕ) → given (Some bytes) ≡ given (Some (take (limit + 1) bytes))
 

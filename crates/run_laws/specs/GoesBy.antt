@@ -1,10 +1,10 @@
--- How what a command answers goes by its inputs.
+-- On what of its inputs a command's answer depends.
 use Rattle.std.specs.Prelude.{◌≡◌, ℕ, ◌+◌, true, false, List, [], ◌∷◌, take, Some, None}
 use Rattle.command_runner.specs.Answer.{Answer, refused}
 use Rattle.command_runner.specs.NamedInputs.{NamedInput, Held}
 use Rattle.command_runner.specs.declared.refusals.Refusal.TheVariants.{ReadFault}
 
--- How an answer goes by the first of its inputs. Whether that is accepted goes by no more of it either.
+-- How an answer depends on the first of its inputs. Whether that is accepted depends on no more of it either.
 pub record GoesByFirst {C : Type 0} (input : NamedInput) (answer : Held → Answer C) : Type 0 where
   pub absent : (rest : Held) → answer (None ∷ rest) ≡ refused ReadFault
   pub limited : (bytes : List ℕ) (rest : Held) → answer (Some bytes ∷ rest) ≡ answer (Some (take (input.limit + 1) bytes) ∷ rest)
@@ -12,8 +12,8 @@ pub record GoesByFirst {C : Type 0} (input : NamedInput) (answer : Held → Answ
   pub refused_alone : (bytes : List ℕ) (rest others : Held) → input.accepts (Some bytes) ≡ false →
       answer (Some bytes ∷ rest) ≡ answer (Some bytes ∷ others)
 
--- What a command answers goes by its inputs in their order: it is refused where one isn't there, it goes by no more of one than its limit and one
--- byte, and by none after one that is refused.
+-- What a command answers depends on its inputs alone, in their order: it is refused where one isn't there, it depends on no more of one than its limit and one
+-- byte, and on none after one that is refused.
 abbrev pub GoesBy : {C : Type 0} → List NamedInput → (Held → Answer C) → Type 0
 GoesBy [] answer = Unit {0}
 GoesBy (input ∷ inputs) answer =

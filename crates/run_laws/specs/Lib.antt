@@ -1,6 +1,6 @@
 -- what the commands answer, and which inputs they read
 pub mod Answers
--- how what a command answers goes by its inputs
+-- on what of its inputs a command's answer depends
 pub mod GoesBy
 -- what calls leave
 pub mod Left

@@ -17,7 +17,7 @@ use Rattle.command_line.specs.Command.{Command, usage}
 use Rattle.run_laws.specs.Answers.{answer_by, inputs_of, order_of}
 
 -- The calls that a run makes, in their order: those for its inputs, those for its outputs and its report, those for its line of complaint, and no
--- others. So nothing comes after a call that failed but the complaint. What is answered goes by the bytes that the inputs gave.
+-- others. So nothing comes after a call that failed but the complaint. The answer depends on the bytes that the inputs gave.
 pub record IsRun (command : Command) (old new : HostState) (status : Status) : Type 0 where
   -- why it was refused, if it was: the status and the line of complaint say this
   pub refusal : Option (Refusal Cause)

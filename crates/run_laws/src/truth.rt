@@ -13,7 +13,7 @@ ghost use Rattle.run_laws.specs.GoesBy.{GoesBy};
 ghost use Rattle.run_laws.specs.Left.{LeavesAll, LeavesPart, ReportsLast, Complains, NoneRose};
 ghost use Rattle.run_laws.specs.Run.{IsRun, answered};
 
-/// What every command answers goes by its inputs in their order, and by no more of one than its limit and one byte.
+/// What every command answers depends on its inputs alone, in their order, and on no more of one than its limit and one byte.
 pub fn every_answer_goes_by_the_inputs()
     ensures { (command : Command) → GoesBy (inputs_of command) (answer_by command) }
 {}

@@ -54,7 +54,7 @@ decimal_text : (n : ℕ) → n < 16 → is_text (decimal n ++ []) ≡ true
 unfolding digits
 decimal_text n below = alike_below 16 (λ n. is_text (decimal n ++ [])) (λ n. true) refl n below
 
--- what stands round a number
+-- the text before and after a number
 around : (before word after : List ℕ) → fails is_apart before ≡ true → fails is_apart word ≡ true → fails is_apart after ≡ true → fails is_apart (before ++ (word ++ after)) ≡ true
 around before word after one two three =
     all_append (λ character. not (is_apart character)) before (word ++ after) one (all_append (λ character. not (is_apart character)) word after two three)

@@ -1,4 +1,4 @@
--- how an operand of each form is written: what stands round its number
+-- how an operand of each form is written: the text before and after its number
 pub mod Patterns
 -- an instruction as its line shows it, and its bytes at an address
 pub mod Instructions

@@ -36,7 +36,7 @@ is_mark character = list_any (λ mark. character == mark) (codes "#!/([")
 abbrev pub is_value_character : ℕ → Bool
 is_value_character character = is_name_character character || is_dollar character
 
--- an operand with a value, and what stands after it: a point and a bit, or no bit
+-- an operand with a value, and the text after that: a dot and the number of a bit, or no bit
 abbrev pub operand_with : (before : List ℕ) → Written → (after : List ℕ) → Option Operand
 operand_with before value [] = Some (record { before = before; value = value; bit = None; after = [] })
 operand_with before value (character ∷ characters) =

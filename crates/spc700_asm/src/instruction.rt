@@ -34,7 +34,7 @@ fn target(next: u32, distance: u8) -> u16
     branch_target((next % 0x1_0000) as u16, distance)
 }
 
-/// The number of some bytes at the front, the low byte first.
+/// The little-endian number in the first `count` bytes.
 pub fn number_at(count: u8, bytes: &[u8]) -> u16
     requires few { count ≤ 2 }
     requires inside { count ≤ length bytes.now }

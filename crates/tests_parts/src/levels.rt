@@ -160,7 +160,7 @@ fn samples_between_falls(adsr1: u8) -> u32 {
     samples
 }
 
-/// Decay 0, 3 and 7 go by the rates 16, 22 and 30, which fire every 64, 16 and 2 samples.
+/// Decay 0, 3 and 7 use the rates 16, 22 and 30, which fire every 64, 16 and 2 samples.
 #[test]
 fn a_decay_falls_at_its_own_rate(rt: HostRuntime) {
     for (adsr1, want) in [(0x8f, 64), (0xbf, 16), (0xff, 2)] {

@@ -40,7 +40,7 @@ struct Known {
     frames: Vec<Frame>,
     marks: Vec<Marked>,
     standing: Standing,
-    /// The number of the next sample of the chip in hand, and the samples that it made.
+    /// The number of the next sample of the current chip, and the samples that it made.
     chip: (u32, u64),
     /// The samples below 100 at which a checkpoint stands.
     live: Vec<u32>,

@@ -33,7 +33,7 @@ fn look_at_endx(rt: &impl Abort, stage: &mut Stage, writes: &[(u8, u8)], n: u8, 
     assert!(rt; stage.dsp.reg_read(0x7c) == endx, "before sample {sample}");
 }
 
-// The block ends in sample 10. The key on that is then written is taken in sample 12, and the block ends again in sample 22. Any byte clears ENDX.
+// The block ends in sample 10. The KON that is then written is latched in sample 12, and the block ends again in sample 22. Any byte clears ENDX.
 #[test]
 fn endx_has_a_voice_until_its_next_key_on(rt: HostRuntime) -> Result<(), Fail> {
     let mut stage = keyed_voice(rt.alloc(), 0x01)?;
@@ -47,7 +47,7 @@ fn endx_has_a_voice_until_its_next_key_on(rt: HostRuntime) -> Result<(), Fail> {
     Ok(())
 }
 
-// The key on is taken in sample 10, in which the block ends, and the block ends again in sample 20.
+// The KON is latched in sample 10, in which the block ends, and the block ends again in sample 20.
 #[test]
 fn endx_loses_a_voice_that_is_keyed_as_its_block_ends(rt: HostRuntime) -> Result<(), Fail> {
     let mut stage = keyed_voice(rt.alloc(), 0x01)?;
@@ -79,7 +79,7 @@ fn endx_has_a_bit_for_each_voice(rt: HostRuntime) -> Result<(), Fail> {
     Ok(())
 }
 
-/// PITCHL and PITCHH, and the sample in which the block ends. Bits 6 and 7 of PITCHH are of no account.
+/// PITCHL and PITCHH, and the sample in which the block ends. Bits 6 and 7 of PITCHH are ignored.
 const PITCHES: [(u8, u8, u32); 7] = [
     (0xff, 0x0f, 11),
     (0x00, 0x10, 10),
@@ -150,8 +150,8 @@ fn are_read(stage: &Stage, wanted: &[(u8, u8)]) -> bool {
         .all(|(address, value)| stage.dsp.reg_read(*address) == *value)
 }
 
-// Each register keeps the byte that is written, also one of no use. The results of voice 0 stand where they are written until its next sample, and KON stays
-// after it is taken.
+// Each register keeps the byte that is written, also one without a function. What is written to ENVX and OUTX of voice 0 stays until its next sample, and KON
+// keeps its value after it is latched.
 #[test]
 fn registers_keep_what_is_written(rt: HostRuntime) -> Result<(), Fail> {
     let kept = [(0x0a, 0x12), (0x1d, 0x34), (0x0e, 0x56), (0x4c, 0x01)];

@@ -9,13 +9,13 @@ use test_support::{
     file_of, host_with, straight_table, wave_of,
 };
 
-/// A program that goes round the pages from 10h on and changes a byte of each, and counts its steps in page 0.
+/// A program that loops over the pages from 10h on, changes a byte of each, and counts its steps in page 0.
 const CHANGES_241_PAGES: Pieces = &[(
     MEMORY + 0x0400,
     b"\x8f\x00\x00\x8f\x10\x01\x8d\x00\xf7\x00\xbc\xd7\x00\x3a\x02\xab\x01\xd0\xf5\x2f\xee",
 )];
 
-/// A program that goes round all pages from page 4 on, one page a sample, and changes a byte of each. Where it is stands in page 4, too.
+/// A program that loops over all pages from page 4 on, one page a sample, and changes a byte of each. The page's number is in its own code, in page 4.
 const CHANGES_A_PAGE_A_SAMPLE: Pieces = &[(
     MEMORY + 0x0400,
     b"\xac\x80\x04\xac\x02\x04\x00\x00\x00\x00\x00\x00\x00\x00\x00\x2f\xef",

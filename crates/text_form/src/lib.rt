@@ -1,5 +1,5 @@
 //! Text and the numbers in it: bytes and words as hexadecimal digits, the number that decimal digits write, and the parts of a
-//! text round a character.
+//! text that is split at a character.
 #![tactic(auto)]
 
 mod decimals;

@@ -1,4 +1,4 @@
-// The parts of a text round a character.
+// The parts of a text that is split at a character.
 ghost use Rattle.std.specs.Prelude.{◌≡◌, ◌<◌, ◌==◌, ◌∷◌, length, option_copied, position, IfSome, IfNone};
 ghost use Rattle.std.specs.List.{slice_split};
 ghost use Rattle.text_form.specs.Parts.{parts_left};

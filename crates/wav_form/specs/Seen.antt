@@ -9,7 +9,7 @@ use Rattle.wav_form.specs.declared.refusal.WavRefusal.{WavRefusal}
 abbrev pub chunk_of : Chunk → chunks.Chunk
 chunk_of chunk = record { name = chunk.name.now; place = chunk.place; size = chunk.size; body = chunk.body.now }
 
--- A chunk that is none of samples is passed over, with the format seen or not from then on, or it is refused.
+-- A chunk other than that of the samples is skipped, with the format seen or not from then on, or it is refused.
 abbrev pub PassesOver : (has_format : Bool) → chunks.Chunk → Result Bool WavRefusal → Type 0
 PassesOver has_format chunk (Ok seen) = (others : List chunks.Chunk) → samples_of_chunks has_format (chunk ∷ others) ≡ samples_of_chunks seen others
 PassesOver has_format chunk (Err refusal) = (others : List chunks.Chunk) → samples_of_chunks has_format (chunk ∷ others) ≡ Err refusal
