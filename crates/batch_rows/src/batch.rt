@@ -18,7 +18,7 @@ use trace_form::Frames;
 use voice_batch::Workspace;
 
 /// Plays a batch by rows: the keys and the noise, each voice over the whole batch, the echo over the rows of sums, and the registers' results. What stands
-/// in the places for what is made is of no account.
+/// in the places for what is made is ignored.
 #[tactic(auto, unfolding(crate::specs::Rows::by_rows))]
 pub fn play_batch(
     state: &mut ChipState,

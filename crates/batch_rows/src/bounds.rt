@@ -25,10 +25,10 @@ fn are_bytes_apart(start: u16, count: u16, esa: u8, len: u32) -> bool
     ensures { result ≡ true → AreApart (pages_of_bytes start count) (window_from esa len) }
 {
     let more = count - 1;
-    let way = start
+    let distance = start
         .wrapping_sub(PAGE_BYTES * u16::from(esa))
         .wrapping_add(more);
-    len + u32::from(more) <= u32::from(way)
+    len + u32::from(more) <= u32::from(distance)
 }
 
 /// Whether a chain has no page of a window of whole pages.

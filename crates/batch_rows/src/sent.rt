@@ -13,7 +13,7 @@ fn is_sent_whole(one: &Volumes) -> bool
     one.sent_left == one.left && one.sent_right == one.right
 }
 
-/// Whether all voices are. Those that aren't heard are, at volume 0.
+/// Whether all voices are sent to the echo at their own volumes. A muted voice counts as sent, at volume 0.
 pub(crate) fn are_all_sent(volumes: &[Volumes; 8]) -> bool
     ensures { result ≡ true → AreAllSent volumes.now }
 {

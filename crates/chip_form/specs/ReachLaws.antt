@@ -14,8 +14,8 @@ WritesInside {S = S} sample reach is_valid =
     → set.contains (reach s memory).write_pages (page_of at) ≡ false
     → byte_at (samples sample n k s memory).memory at ≡ byte_at memory at
 
--- Where the reach isn't entangled, a byte put off the read pages changes nothing of what the samples of a batch leave and give,
--- and the memory after them in that byte alone.
+-- Where the reach isn't entangled, a byte written outside the read pages changes neither the state that the samples of a batch leave nor their results,
+-- and of the memory after them that byte alone.
 abbrev pub ReadsInside : {S : Type 0} → (ℕ → S → List ℕ → SampleResult S) → (S → List ℕ → ReachPages) → (S → Bool) → Type 0
 ReadsInside {S = S} sample reach is_valid =
     (n k : ℕ) (s : S) (memory : List ℕ) (at value : ℕ) → n ≤ max_samples_of_batch → is_valid s ≡ true
@@ -24,7 +24,7 @@ ReadsInside {S = S} sample reach is_valid =
     → samples sample n k s (with_byte memory at value)
     ≡ record (samples sample n k s memory) { memory = with_byte (samples sample n k s memory).memory at value }
 
--- where the premise holds, a byte put off the read pages leaves the reach as it is
+-- where the premise holds, a byte written outside the read pages leaves the reach as it is
 abbrev pub ReachStays : {S : Type 0} → (S → List ℕ → ReachPages) → (premise : S → List ℕ → Bool) → Type 0
 ReachStays {S = S} reach premise =
     (s : S) (memory : List ℕ) (at value : ℕ) → premise s memory ≡ true

@@ -7,7 +7,7 @@ use rate_clock::RateClock;
 use std::marker::Model;
 
 /// What `Dsp::save` makes, or `with_muted` of such a value: the registers, what the chip keeps beside them, the muted voices, and the number of
-/// its next sample. The table is none of it.
+/// its next sample. The table isn't part of it.
 #[derive(Clone, Copy, Debug)]
 pub struct DspState {
     pub(crate) registers: Registers,

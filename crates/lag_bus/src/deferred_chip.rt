@@ -93,7 +93,7 @@ fn move_records(from: &mut Records, to: &mut Records)
     }
 }
 
-/// A chip in hand is in a valid state, and the samples that it made in all are a number of 64 bits.
+/// The current chip is in a valid state, and the samples that it made in all are a number of 64 bits.
 // Nothing but the chip's own calls shows so.
 #[inline]
 pub fn is_in_hand<C: Chip>(chip: &C)
@@ -128,7 +128,7 @@ fn make_samples<C: Chip>(
 }
 
 impl<C: Chip> DeferredChip<C> {
-    /// The chip in hand.
+    /// The current chip.
     pub fn chip(&self) -> &C
         ensures batches { C.batches result.now ≡ self.now.batches }
         ensures sample { C.sample result.now ≡ self.now.due - self.now.pending }

@@ -128,7 +128,7 @@ impl<C: Chip> LagBus<C> {
         })
     }
 
-    /// The chip in hand. It made the batches and samples that are counted, and its next sample is the first one pending. Where none is
+    /// The current chip. It made the batches and samples that are counted, and its next sample is the first one pending. Where none is
     /// pending it is that of the machine.
     pub fn chip(&self) -> &C
         ensures batches { C.batches result.now ≡ self.now.chip_batches }
@@ -150,7 +150,7 @@ impl<C: Chip> LagBus<C> {
         self.deferred.pending()
     }
 
-    /// How often the chip ran, and why. The chip in hand, which `chip` gives, made these batches.
+    /// How often the chip ran, and why. The current chip, which `chip` gives, made these batches.
     pub fn counts(&self) -> Counts
         ensures counts { result ≡ self.now.book.counts }
         ensures adds_up { AddsUp result }
@@ -160,14 +160,14 @@ impl<C: Chip> LagBus<C> {
         self.counts
     }
 
-    /// The samples that the chip in hand made in all, those before a load too. It stays at its type's end.
+    /// The samples that the current chip made in all, those before a load too. It stays at its type's end.
     pub fn total(&self) -> u64
         ensures { result ≡ self.now.chip_total }
     {
         self.deferred.total()
     }
 
-    /// The numbers of the chip in hand are those of the book.
+    /// The numbers of the current chip are those of the book.
     pub fn matches_its_book(&self)
         ensures { MatchesBook self.now }
     {
@@ -229,7 +229,7 @@ impl<C: Chip> LagBus<C> {
         answer_of(&self.deferred, address, known, 0xF3)
     }
 
-    /// A read of an address of which no mark shows anything.
+    /// A read of an address on a page without a mark.
     // Out of line, as what is rarer than an access of memory alone.
     #[inline(never)]
     #[tactic(auto, using(crate::proofs::PassesInHand::alone_apart))]

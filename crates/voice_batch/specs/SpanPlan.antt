@@ -9,7 +9,7 @@ use Rattle.voice_batch.specs.declared.span_plan.SpanPlan.{SpanPlan}
 use Rattle.voice_batch.specs.declared.span_plan.Span.{Span}
 use Rattle.voice_batch.specs.declared.row.Place.{Place}
 
--- the bounds of what a voice goes by in n samples
+-- the bounds of what n samples of a voice depend on
 pub record IsSpanPlan (span_plan : SpanPlan) (n : ℕ) : Type 0 where
   pub voice : span_plan.voice < 8
   pub span_phases : AreSpanPhases span_plan.span_phases n

@@ -51,7 +51,7 @@ fn put_phases_of(
     put_phases(phases, pitches, voice.position(), at, n);
 }
 
-/// What the voice goes by in a span of n samples.
+/// What the samples of a span of n samples depend on.
 fn span_plan<'a>(
     voice: &Voice,
     n: u8,

@@ -177,7 +177,7 @@ fn put_noise_by_levels(
     }
 }
 
-/// The outputs of n samples at level 0. What stands behind them in the row is of no account, so that those of a whole batch are put at once.
+/// The outputs of n samples at level 0. What stands behind them in the row is ignored, so that those of a whole batch are put at once.
 fn put_silence(outs: &mut [i16; BATCH_SIZE], at: u8, n: u8)
     requires { at + n ≤ BATCH_SIZE }
     ensures outs { (j : ℕ) → j < n → number_at outs.new (at + j) ≡ pos 0 }

@@ -16,7 +16,7 @@ use envelope::Envelope;
 use num_fix::BATCH_SIZE;
 use voice_unit::is_silencing;
 
-/// What a voice goes by in a span of samples in which its envelope runs free and it plays on.
+/// What the samples of a span depend on: in it the voice's envelope runs free, and the voice plays on.
 #[derive(Clone, Copy)]
 pub(crate) struct SpanPlan<'a> {
     /// The number of the voice, 0 to 7.

@@ -31,7 +31,7 @@ pub struct Workspace {
 
 impl Workspace {
     /// A workspace for voices that play by a table. No clause is wanted: by its type it has a place for what a voice needs, what stands there at first is
-    /// of no account, since each voice writes what it reads there, and contracts see nothing of a memory of blocks.
+    /// ignored, since each voice writes what it reads there, and contracts see nothing of a memory of blocks.
     pub fn new(alloc: Global, table: &GaussTable) -> Result<Workspace, OutOfMemory> {
         Ok(Workspace {
             row: [0; ROW_SIZE],

@@ -286,7 +286,7 @@ impl Voice {
         }
     }
 
-    /// Reads a group, where the position has come to it, and returns whether that ends a block that has its end bit.
+    /// Reads the next group if the position has reached it, and returns whether that ends a block that has its end bit.
     /// Inlined, since most samples of a batch read none.
     #[inline(always)]
     #[tactic(auto, unfolding(crate::specs::Voice::after_reading))]
