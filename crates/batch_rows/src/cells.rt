@@ -2,8 +2,6 @@
 //! no byte that a voice can read in them.
 
 ghost use Rattle.std.specs.Prelude.{◌≡◌, ◌≤◌, ◌<◌, ◌+◌, ◌*◌, ℕ, true};
-ghost use Rattle.aram_core.specs.Memory.{byte_at};
-ghost use Rattle.brr_decode.specs.Header.{next_block};
 ghost use Rattle.chip_form.specs.Limits.{max_samples_of_batch};
 ghost use Rattle.dsp_state.specs.Valid.{is_valid};
 ghost use Rattle.reach_laws.specs.CellsMiss.{CellsMiss, CellsMissChain, CellsMissVoice, CellsMissVoices};
@@ -11,7 +9,7 @@ ghost use Rattle.batch_rows.specs.Apart.{VoicesReadTheSame};
 ghost use Rattle.batch_rows.specs.CellLine.{line_from};
 
 use aram_core::Aram;
-use brr_decode::has_end;
+use brr_decode::next_block;
 use dsp_state::ChipState;
 use dsp_state::registers::{DIR, EDL, ESA, SRCN, voice_register};
 use reach_map::{BLOCK_SIZE, CHAIN_BYTES, ChainStart, ENTRY_SIZE};
@@ -29,18 +27,6 @@ fn cells_before(first: u16, cells: u8, start: u16, count: u16) -> u8
     u16::from(cells).min(start.wrapping_sub(first) / 4) as u8
 }
 
-/// The block that follows one on its chain.
-#[inline]
-fn next_block(memory: &Aram, block: u16, loop_word: u16) -> u16
-    ensures { result ≡ next_block (byte_at memory.now block) block loop_word }
-{
-    if has_end(memory.get(block)) {
-        loop_word
-    } else {
-        block.wrapping_add(BLOCK_SIZE)
-    }
-}
-
 /// How many of so many cells in line have no byte of a chain that a voice comes to by then, as the chain is walked.
 fn walked_cells(memory: &Aram, chain: ChainStart, first: u16, cells: u8) -> u8
     requires { cells ≤ max_samples_of_batch }
@@ -53,7 +39,7 @@ fn walked_cells(memory: &Aram, chain: ChainStart, first: u16, cells: u8) -> u8
     'walk: while 4 * i <= left + 2 {
         let before = cells_before(first, left, block, BLOCK_SIZE);
         left = before.max((4 * i).saturating_sub(3));
-        block = next_block(memory, block, chain.loop_word);
+        block = next_block(memory.get(block), block, chain.loop_word);
         i += 1;
     }
     left

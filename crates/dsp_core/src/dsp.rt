@@ -4,7 +4,7 @@ ghost use Rattle.std.specs.Prelude.{◌≡◌, ◌≤◌, ◌<◌, ◌+◌, ◌*
 ghost use Rattle.std.specs.FinSet as set;
 ghost use Rattle.trace_form.specs.Capacities.{frame_capacity, record_capacity};
 ghost use Rattle.chip_form.specs.Limits.{max_samples_of_chip, max_samples_of_batch};
-ghost use Rattle.chip_form.specs.Samples.{AddsSamples, AddsSample, count_after};
+ghost use Rattle.chip_form.specs.Samples.{AddsSamples, count_after};
 ghost use Rattle.dsp_state.specs.Settings.{settings_of};
 ghost use Rattle.dsp_state.specs.Outside.{opened_state, register_read, register_write};
 ghost use Rattle.dsp_state.specs.Valid.{is_valid};
@@ -13,6 +13,7 @@ ghost use Rattle.reach_map.specs.Reach.{window_pages};
 ghost use Rattle.batch_rows.specs.AddsFrames.{AddsFrames};
 ghost use Rattle.batch_rows.specs.Apart.{VoicesReadTheSame};
 ghost use Rattle.dsp_core.specs.Next.{next_sample, next_samples};
+ghost use Rattle.dsp_core.specs.Outputs.{HasRoomFor, AddsSamplesTo, AddsSampleTo, AreSame};
 ghost use Rattle.dsp_core.specs.Saved.{saved_state, loaded_state};
 
 use crate::OutOfMemory;
@@ -78,6 +79,14 @@ fn renew(settings: &mut Settings, fresh: &mut bool, state: &ChipState)
         *settings = settings_of(&state.registers, state.muted);
         *fresh = true;
     }
+}
+
+/// What samples add to: the frames, and the records of the voices in the mask; bit v of the mask is voice v.
+#[derive(Drop)]
+struct Outputs<'a> {
+    mask: u8,
+    frames: &'a mut Frames,
+    records: &'a mut Records,
 }
 
 impl Dsp {
@@ -148,20 +157,13 @@ impl Dsp {
     }
 
     /// Makes the next sample, with the answers of its voices.
-    fn make_one(
-        &mut self,
-        memory: &mut Aram,
-        mask: u8,
-        frames: &mut Frames,
-        records: &mut Records,
-        answers: &mut [VoiceOut; 8],
-    )
-        requires frame_capacity { length frames.old < frame_capacity }
-        requires record_capacity { length records.old + 8 ≤ record_capacity }
+    fn make_one(&mut self, memory: &mut Aram, outputs: &mut Outputs, answers: &mut [VoiceOut; 8])
+        requires room { HasRoomFor 1 outputs.old }
         requires number { self.old.sample < max_samples_of_chip }
-        ensures made { AddsSample mask (next_sample self.old memory.old) self.new.state memory.new frames.old frames.new records.old records.new }
+        ensures made { AddsSampleTo (next_sample self.old memory.old) self.new.state memory.new outputs.old outputs.new }
         ensures chip { self.new ≡ record self.old { state = self.new.state; sample = self.old.sample + 1 } }
-        ensures record_count { length records.new ≤ length records.old + 8 }
+        ensures same { AreSame outputs.old outputs.new }
+        ensures record_count { length outputs.new.records.now ≤ length outputs.old.records.now + 8 }
     {
         renew(&mut self.settings, &mut self.fresh, &self.state);
         self.clock.step();
@@ -173,29 +175,22 @@ impl Dsp {
             memory,
             answers,
         );
-        push_records(records, mask, self.number, answers);
-        frames.push(frame);
+        push_records(outputs.records, outputs.mask, self.number, answers);
+        outputs.frames.push(frame);
         self.number += 1;
     }
 
-    /// Makes the next n samples one after another, and adds their frames and the records of the voices in the mask.
-    fn make_each(
-        &mut self,
-        n: u8,
-        memory: &mut Aram,
-        mask: u8,
-        frames: &mut Frames,
-        records: &mut Records,
-    )
-        requires frame_capacity { length frames.old + n ≤ frame_capacity }
-        requires record_capacity { length records.old + 8 * n ≤ record_capacity }
+    /// Makes the next n samples one after another, and adds them to the outputs.
+    fn make_each(&mut self, n: u8, memory: &mut Aram, outputs: &mut Outputs)
+        requires room { HasRoomFor n outputs.old }
         requires number { self.old.sample + n ≤ max_samples_of_chip }
-        ensures made { AddsSamples mask (next_samples n self.old memory.old) self.new.state memory.new frames.old frames.new records.old records.new }
+        ensures made { AddsSamplesTo (next_samples n self.old memory.old) self.new.state memory.new outputs.old outputs.new }
+        ensures same { AreSame outputs.old outputs.new }
         ensures chip { self.new ≡ record self.old { state = self.new.state; sample = self.old.sample + n } }
     {
         let mut answers = [UNHEARD; 8];
         'samples: for _ in 0..n {
-            self.make_one(memory, mask, frames, records, &mut answers);
+            self.make_one(memory, outputs, &mut answers);
         }
     }
 
@@ -246,37 +241,28 @@ impl Dsp {
         apart
     }
 
-    /// Makes some of the next n samples, by rows where no records are wanted, or a few one by one, and adds their frames and the records
-    /// of the voices in the mask.
+    /// Makes some of the next n samples, by rows where no records are wanted, or a few one by one, and adds them to the outputs.
     /// The answer is how many.
-    fn make_some(
-        &mut self,
-        n: u8,
-        memory: &mut Aram,
-        mask: u8,
-        frames: &mut Frames,
-        records: &mut Records,
-    ) -> u8
+    fn make_some(&mut self, n: u8, memory: &mut Aram, outputs: &mut Outputs) -> u8
         requires some { 0 < n }
         requires few { n ≤ max_samples_of_batch }
-        requires frame_capacity { length frames.old + n ≤ frame_capacity }
-        requires record_capacity { length records.old + 8 * n ≤ record_capacity }
+        requires room { HasRoomFor n outputs.old }
         requires number { self.old.sample + n ≤ max_samples_of_chip }
         ensures some { 0 < result }
         ensures few { result ≤ n }
-        ensures made { let made = next_samples result self.old memory.old in
-            AddsSamples mask made self.new.state memory.new frames.old frames.new records.old records.new }
+        ensures made { AddsSamplesTo (next_samples result self.old memory.old) self.new.state memory.new outputs.old outputs.new }
+        ensures same { AreSame outputs.old outputs.new }
         ensures chip { self.new ≡ record self.old { state = self.new.state; sample = self.old.sample + result } }
     {
-        if mask == 0 {
+        if outputs.mask == 0 {
             let rows = self.samples_by_rows(n, memory);
             if rows > 0 {
-                self.make_rows(rows, memory, frames);
+                self.make_rows(rows, memory, outputs.frames);
                 return rows;
             }
         }
         let few = n.min(ONE_BY_ONE);
-        self.make_each(few, memory, mask, frames, records);
+        self.make_each(few, memory, outputs);
         few
     }
 
@@ -304,9 +290,14 @@ impl Dsp {
             return;
         }
         self.batches = self.batches.saturating_add(1);
+        let mut outputs = Outputs {
+            mask,
+            frames,
+            records,
+        };
         let mut made = 0;
         'samples: while made < n {
-            made += self.make_some(n - made, memory, mask, frames, records);
+            made += self.make_some(n - made, memory, &mut outputs);
         }
     }
 

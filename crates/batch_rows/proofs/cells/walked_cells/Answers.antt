@@ -16,7 +16,7 @@ pub walk-preserved : goal.walk-preserved
 walk-preserved c = record {
   few = omega arith;
   turns = omega arith;
-  block = rw (c.next_block-block.ensures, c.walk.invariant.block, add-one) (sym (chain_entry-suc c.args.memory.now c.args.chain c.walk.i));
+  block = rw (c.next_block-block.ensures, c.get.ensures, c.walk.invariant.block, add-one) (sym (chain_entry-suc c.args.memory.now c.args.chain c.walk.i));
   missed = one_block_more (line_from c.args.first) c.args.memory.now c.args.chain c.walk.i c.walk.left c.cells_before-before.result _ c.walk.invariant.missed
       (rw c.walk.invariant.block at c.cells_before-before.ensures.miss) (omega arith) (λ reached. omega (arith, reached));
 }

@@ -1,4 +1,4 @@
-use Rattle.std.proofs.Common.{refl, sym, arith, append_assoc, length-append}
+use Rattle.std.proofs.Common.{refl, sym, ◌∙◌, arith, append_assoc, length-append}
 use Rattle.std.proofs.lemmas.List.{append-nil}
 use Rattle.std.proofs.lemmas.List.Elements.{filter-append}
 use Rattle.chip_form.proofs.OneMoreSample.{samples_none, samples_more}
@@ -11,8 +11,9 @@ samples-init c = record {
   batches = refl;
   total = refl;
   memory = rw samples_none refl;
-  frames = rw samples_none (sym (append-nil c.args.frames.now));
-  records = rw samples_none (sym (append-nil c.args.records.now));
+  same = record { mask = refl; frames = refl; records = refl };
+  frames = rw samples_none (sym (append-nil c.args.outputs.now.frames.now));
+  records = rw samples_none (sym (append-nil c.args.outputs.now.records.now));
   frame_count = omega arith;
   record_count = omega arith;
 }
@@ -24,8 +25,13 @@ samples-preserved c = record {
   batches = rw (c.make_one.ensures.chip) c.samples.invariant.batches;
   total = rw (c.make_one.ensures.chip) c.samples.invariant.total;
   memory = rw (samples_more, c.make_one.ensures.made.memory_made, c.samples.invariant.state, c.samples.invariant.memory, c.samples.invariant.sample) refl;
+  same = record {
+    mask = c.make_one.ensures.same.mask ∙ c.samples.invariant.same.mask;
+    frames = c.make_one.ensures.same.frames ∙ c.samples.invariant.same.frames;
+    records = c.make_one.ensures.same.records ∙ c.samples.invariant.same.records;
+  };
   frames = rw (samples_more, c.make_one.ensures.made.frames_made, c.samples.invariant.state, c.samples.invariant.memory, c.samples.invariant.sample, c.samples.invariant.frames, append_assoc) refl;
-  records = rw (samples_more, filter-append, c.make_one.ensures.made.records_made, c.samples.invariant.state, c.samples.invariant.memory, c.samples.invariant.sample, c.samples.invariant.records, append_assoc) refl;
+  records = rw (samples_more, filter-append, c.make_one.ensures.made.records_made, c.samples.invariant.same.mask, c.samples.invariant.state, c.samples.invariant.memory, c.samples.invariant.sample, c.samples.invariant.records, append_assoc) refl;
   frame_count = rw (c.make_one.ensures.made.frames_made, length-append) (omega (arith, c.samples.invariant.frame_count));
   record_count = omega (arith, c.samples.invariant.record_count, c.make_one.ensures.record_count);
 }

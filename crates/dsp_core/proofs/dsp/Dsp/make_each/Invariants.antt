@@ -2,6 +2,7 @@ use Rattle.std.proofs.Common.{◌≡◌, ◌+◌, ◌*◌, ◌≤◌, ◌++◌, 
 use Rattle.std.specs.List.{filter}
 use Rattle.chip_form.specs.Samples.{samples, in_mask}
 use Rattle.dsp_state.specs.Sample.{sample}
+use Rattle.dsp_core.specs.Outputs.{AreSame}
 use Rattle.dsp_core.proofs.dsp.Dsp.make_each.Given as goal
 
 abbrev pub invariant-samples : goal.invariant-samples
@@ -13,8 +14,9 @@ invariant-samples l =
       batches : l.self.batches ≡ l.initial.self.batches;
       total : l.self.total ≡ l.initial.self.total;
       memory : l.memory ≡ done.memory;
-      frames : l.frames ≡ l.initial.frames ++ done.frames;
-      records : l.records ≡ l.initial.records ++ filter (in_mask l.mask) done.records;
-      frame_count : length l.frames ≡ length l.initial.frames + l.counter;
-      record_count : length l.records ≤ length l.initial.records + 8 * l.counter;
+      same : AreSame l.initial.outputs l.outputs;
+      frames : l.outputs.frames.now ≡ l.initial.outputs.frames.now ++ done.frames;
+      records : l.outputs.records.now ≡ l.initial.outputs.records.now ++ filter (in_mask l.initial.outputs.mask) done.records;
+      frame_count : length l.outputs.frames.now ≡ length l.initial.outputs.frames.now + l.counter;
+      record_count : length l.outputs.records.now ≤ length l.initial.outputs.records.now + 8 * l.counter;
     }

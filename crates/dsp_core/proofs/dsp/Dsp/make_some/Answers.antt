@@ -8,5 +8,5 @@ returns-then-rows-gt0-clause-made c = record {
   state_made = c.make_rows.ensures.made.state_made;
   memory_made = c.make_rows.ensures.made.memory_made;
   frames_made = c.make_rows.ensures.made.frames_made;
-  records_made = rw (c.if-mask-eq0.true, no_records) (sym (append-nil c.args.records.now));
+  records_made = rw (c.if-outputs-eq0.true, no_records) (sym (append-nil c.args.outputs.now.records.now));
 }
