@@ -7,7 +7,7 @@ use Rattle.voice_unit.specs.declared.all_voices.BatchRows.{BatchRows}
 use Rattle.voice_unit.specs.declared.interface.VoiceIn.{VoiceIn}
 use Rattle.voice_batch.specs.declared.plain.PlainSamples.{PlainSamples}
 
--- in sample j of a batch no key on of a voice is taken
+-- in sample j of a batch no key on of a voice is latched
 abbrev pub IsPlain : (own : VoiceView) → (rows : BatchRows) → (j : ℕ) → Type 0
 IsPlain own rows j = has_bit (slice_index rows.kon j) own.voice ≡ false
 

@@ -1,4 +1,4 @@
-//! The samples of a batch in which a voice plays plainly: no key on of it is taken.
+//! The samples of a batch in which a voice plays plainly: no key on of it is latched.
 
 ghost use Rattle.std.specs.Prelude.{◌≡◌, ◌<◌, ◌≤◌, ℕ, false, slice_index};
 ghost use Rattle.num_fix.specs.Arithmetic.{has_bit};
@@ -17,16 +17,18 @@ pub(crate) struct PlainSamples {
     pub from: u8,
 }
 
-/// Whether a key on of a voice is taken in any sample of a batch.
-fn is_ever_taken(rows: &BatchRows, voice: u8) -> bool
+/// Whether a key on of a voice is latched in any sample of a batch.
+fn is_ever_latched(rows: &BatchRows, voice: u8) -> bool
     requires { voice < 8 }
     ensures { result ≡ false → (j : ℕ) → j < BATCH_SIZE → has_bit (slice_index rows.now.kon j) voice ≡ false }
 {
     has_bit(rows.any, voice)
 }
 
-/// The first sample of a batch in which a key on of a voice is taken; 64 if there is none.
-fn first_taken(kon: &[u8; BATCH_SIZE], voice: u8) -> u8
+/// The first sample of a batch in which a key on of a voice is latched; 64 if there is none.
+// Out of line, as most voices have no key on in a batch.
+#[inline(never)]
+fn first_latched(kon: &[u8; BATCH_SIZE], voice: u8) -> u8
     requires { voice < 8 }
     ensures { (j : ℕ) → j < result → has_bit (slice_index kon.now j) voice ≡ false }
 {
@@ -38,8 +40,10 @@ fn first_taken(kon: &[u8; BATCH_SIZE], voice: u8) -> u8
     END
 }
 
-/// The sample after the last one in which a key on of a voice is taken; 0 if there is none.
-fn after_taken(kon: &[u8; BATCH_SIZE], voice: u8) -> u8
+/// The sample after the last one in which a key on of a voice is latched; 0 if there is none.
+// Out of line, as the first.
+#[inline(never)]
+fn after_latched(kon: &[u8; BATCH_SIZE], voice: u8) -> u8
     requires { voice < 8 }
     ensures { (j : ℕ) → result ≤ j → j < BATCH_SIZE → has_bit (slice_index kon.now j) voice ≡ false }
 {
@@ -75,14 +79,14 @@ pub(crate) fn plain_samples(seen: &VoiceView, rows: &BatchRows) -> PlainSamples
     requires { seen.now.voice < 8 }
     ensures { (j : ℕ) → j < BATCH_SIZE → IsKnownPlain result j → IsPlain seen.now rows.now j }
 {
-    if !is_ever_taken(rows, seen.voice) {
+    if !is_ever_latched(rows, seen.voice) {
         return PlainSamples {
             before: END,
             from: END,
         };
     }
     PlainSamples {
-        before: first_taken(&rows.kon, seen.voice),
-        from: after_taken(&rows.kon, seen.voice),
+        before: first_latched(&rows.kon, seen.voice),
+        from: after_latched(&rows.kon, seen.voice),
     }
 }

@@ -149,7 +149,7 @@ fn play_span(
     }
 }
 
-/// Makes samples from sample `j` up to another one, between which no key on is taken, if its envelope runs free; fewer where a header silences it.
+/// Makes samples from sample `j` up to another one, between which no key on is latched, if its envelope runs free; fewer where a header silences it.
 pub(crate) fn render_span(
     voice: &mut Voice,
     j: u8,

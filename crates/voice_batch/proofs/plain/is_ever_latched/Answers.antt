@@ -3,7 +3,7 @@ use Rattle.std.specs.Int.{bit_at}
 use Rattle.std.proofs.lemmas.Bool.Decides.{nat_tests}
 use Rattle.num_fix.specs.Arithmetic.{has_bit}
 use Rattle.voice_unit.specs.KeyBits.{HasBitsOf}
-use Rattle.voice_batch.proofs.plain.is_ever_taken.Goals as goal
+use Rattle.voice_batch.proofs.plain.is_ever_latched.Goals as goal
 
 -- a bit that isn't set is 0
 off : (x : ℕ) → (x % 2 == 1) ≡ false → x % 2 ≡ 0

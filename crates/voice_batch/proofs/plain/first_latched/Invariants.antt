@@ -1,6 +1,6 @@
 use Rattle.std.proofs.Common.{◌≡◌, ◌<◌, ℕ, false, slice_index}
 use Rattle.num_fix.specs.Arithmetic.{has_bit}
-use Rattle.voice_batch.proofs.plain.first_taken.Given as goal
+use Rattle.voice_batch.proofs.plain.first_latched.Given as goal
 
 abbrev pub invariant-loop-j : goal.invariant-loop-j
 invariant-loop-j l = (i : ℕ) → i < l.j → has_bit (slice_index l.kon i) l.voice ≡ false
